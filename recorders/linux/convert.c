@@ -1,40 +1,44 @@
 /* Makes traces from a recording of a kernel. The README says how it is called and what it leaves.
 
    The order of this file: what went wrong, the files, the symbols, the classes and their keys, the tasks' traces, the
-   tasks' books, the records, and what is written. */
+   tasks' books, the records, tasks beyond what a run takes, and what is written. */
 #define _GNU_SOURCE
 #include "record.h"
 
-#include <dirent.h>
 #include <errno.h>
+#include <fcntl.h>
 #include <regex.h>
 #include <stdbool.h>
 #include <stdio.h>
 #include <stdlib.h>
 #include <string.h>
+#include <sys/mman.h>
 #include <sys/stat.h>
+#include <unistd.h>
 
-#define DEFAULT_KEYS 256   /* of a run of `lockdep check` */
+#define DEFAULT_KEYS 8192  /* of a run of `lockdep check --many` */
 #define MAX_HELD 48        /* kept locks of one task, in the kernel and in a trace */
 #define MAX_NAME 64        /* bytes of a class's name in a trace */
 #define MAX_EVENTS 1000000 /* of one trace */
 #define MAX_TRACES 4096    /* of a run */
 #define MAX_CPUS 1024
 #define SUBCLASSES 8
+#define MODULE_REACH 65536 /* bytes from a symbol of a module to what still belongs to it */
+#define ALIKE 2            /* traces that have to say the same before another that does is left out */
 #define LEFT_OUT (-1) /* the key of a lock that isn't written */
 
 _Static_assert(sizeof(struct lr_record) == 40, "a record has 40 bytes");
 
 struct options {
-    const char *raw, *folder, *symbols;
+    const char *raw, *folder, *symbols, *only_module;
     int version;
-    unsigned long keys;
+    unsigned long keys, most_traces;
     bool repeats, full_names;
     bool is_only;
     regex_t only;
 };
 
-static struct options options = {.folder = "traces", .version = 2, .keys = DEFAULT_KEYS};
+static struct options options = {.folder = "traces", .version = 2, .keys = DEFAULT_KEYS, .most_traces = MAX_TRACES};
 
 /* What is printed at the end. */
 struct counts {
@@ -42,9 +46,13 @@ struct counts {
     unsigned long agreed, mismatches, lost, gaps, blind;
     unsigned long taken_in_flight, given_in_flight;
     unsigned long unchecked, tries, not_looked_at, readers, not_chosen, unknown_releases, beyond_limit;
+    unsigned long nested; /* acquisitions under a nest_lock, with another lock of their class held */
+    unsigned long off;    /* events after lockdep turned itself off, or of a recording without its account */
     unsigned long after_lockdep; /* events since the last one that lockdep looked at */
     unsigned long untold;        /* records of a CPU before its first task */
     unsigned long cut_files;
+    unsigned long alike;  /* tasks that are left out, since others said the same */
+    unsigned long shared; /* tasks that share a trace with others */
 };
 
 static struct counts counts;
@@ -76,18 +84,20 @@ static uint64_t mix(uint64_t sum, uint64_t word) {
 /* ---- Files: the records of each CPU, and all of them in the order of their numbers. */
 
 struct cpu {
-    struct lr_record *slots;
+    const struct lr_record *slots;
     size_t slot_count;
     size_t next;   /* the slot that comes next in the order of numbers */
     uint64_t base; /* from LR_CPU */
-    bool is_based, is_in_gap;
-    struct task *task;           /* that runs on it */
+    bool is_there, is_based, is_in_gap;
+    struct task *task;                /* that runs on it */
     const struct lr_record *switched; /* an LR_TASK whose list isn't whole yet */
     const struct lr_record *list[MAX_HELD];
     size_t list_count;
+    uint64_t nest_lock; /* of the next acquisition */
 };
 
 static struct cpu cpus[MAX_CPUS];
+static int cpu_count;
 static int open_gaps; /* how many CPUs are losing records */
 
 /* One record, its CPU, and whether records of this CPU were lost right after it. */
@@ -97,40 +107,74 @@ struct item {
     bool is_before_gap;
 };
 
-static struct item *items;
-static size_t item_count;
-
 /* A whole file, followed by a zero byte. */
 static char *read_file(const char *path, size_t *size) {
     FILE *file = fopen(path, "rb");
     if (!file)
         return NULL;
-    fseek(file, 0, SEEK_END);
-    *size = (size_t)ftell(file);
-    rewind(file);
-    char *bytes = checked(malloc(*size + 1));
-    if (fread(bytes, 1, *size, file) != *size)
+    char *bytes = NULL;
+    size_t room = 0;
+    ssize_t length = getdelim(&bytes, &room, 0, file);
+    *size = length < 0 ? 0 : (size_t)length;
+    if (ferror(file))
         refuse(path, "can't be read");
-    bytes[*size] = 0;
     fclose(file);
-    return bytes;
+    return length < 0 ? checked(calloc(1, 1)) : bytes;
+}
+
+/* A file of the recording, as text. */
+static char *read_raw(const char *name, size_t *size) {
+    char path[4096];
+    snprintf(path, sizeof path, "%s/%s", options.raw, name);
+    return read_file(path, size);
 }
 
 static size_t slots_of(const struct lr_record *record) { return record->type == LR_NAME ? 1 + LR_NAME_SLOTS : 1; }
 
-static bool load_cpu(int number) {
+/* Makes a CPU's file readable as an array, without reading it: it may be larger than the memory. */
+static void load_cpu(int number) {
     char path[4096];
-    size_t size;
-    snprintf(path, sizeof path, "%s/cpu%d.bin", options.raw, number);
+    struct stat found;
     struct cpu *cpu = &cpus[number];
-    cpu->slots = (struct lr_record *)read_file(path, &size);
-    cpu->slot_count = size / sizeof(struct lr_record);
-    counts.cut_files += size % sizeof(struct lr_record) != 0;
-    return cpu->slots != NULL;
+    snprintf(path, sizeof path, "%s/cpu%d.bin", options.raw, number);
+    int file = open(path, O_RDONLY);
+    if (file < 0)
+        return;
+    if (fstat(file, &found) || !S_ISREG(found.st_mode))
+        refuse(path, "can't be read");
+    cpu->is_there = true;
+    cpu->slot_count = (size_t)found.st_size / sizeof(struct lr_record);
+    counts.cut_files += (size_t)found.st_size % sizeof(struct lr_record) != 0;
+    if (cpu->slot_count)
+        cpu->slots = mmap(NULL, (size_t)found.st_size, PROT_READ, MAP_PRIVATE, file, 0);
+    if (cpu->slots == MAP_FAILED)
+        refuse(path, "can't be read");
+    close(file);
+    cpu_count = number + 1;
+}
+
+/* A file may end within the records of a name. */
+static void drop_cut_end(struct cpu *cpu) {
+    size_t place = 0;
+    while (place < cpu->slot_count && place + slots_of(&cpu->slots[place]) <= cpu->slot_count)
+        place += slots_of(&cpu->slots[place]);
+    counts.cut_files += place != cpu->slot_count;
+    cpu->slot_count = place;
+}
+
+static void load_cpus(void) {
+    bool is_found = false;
+    for (int number = 0; number < MAX_CPUS; number++) {
+        load_cpu(number);
+        drop_cut_end(&cpus[number]);
+        is_found = is_found || cpus[number].is_there;
+    }
+    if (!is_found)
+        refuse(options.raw, "there is no cpuN.bin");
 }
 
 /* The CPU whose next record has the smallest number, or -1. */
-static int first_cpu(int cpu_count) {
+static int first_cpu(void) {
     int first = -1;
     for (int number = 0; number < cpu_count; number++) {
         struct cpu *cpu = &cpus[number];
@@ -142,43 +186,81 @@ static int first_cpu(int cpu_count) {
     return first;
 }
 
-static void load_items(void) {
-    int cpu_count = 0, found = 0;
-    for (int number = 0; number < MAX_CPUS; number++)
-        if (load_cpu(number)) {
-            cpu_count = number + 1;
-            found++;
-        } else {
-            cpus[number].slot_count = 0;
-        }
-    if (!found)
-        refuse(options.raw, "there is no cpuN.bin");
-    int number;
-    while ((number = first_cpu(cpu_count)) >= 0) {
-        struct cpu *cpu = &cpus[number];
-        const struct lr_record *record = &cpu->slots[cpu->next];
-        size_t end = cpu->next + slots_of(record);
-        cpu->next = end;
-        if (end > cpu->slot_count) {
-            counts.cut_files++;
-            continue;
-        }
-        bool is_before_gap = end < cpu->slot_count && cpu->slots[end].type == LR_LOST;
-        struct item item = {record, number, is_before_gap};
-        PUSH(items, item_count, item);
-    }
+static void begin_items(void) {
+    for (int number = 0; number < cpu_count; number++)
+        cpus[number].next = 0;
 }
 
-/* ---- Symbols: the kernel's own, by address. */
+/* The next record of all, in the order of their numbers. False: there is none. */
+static bool next_item(struct item *item) {
+    int number = first_cpu();
+    if (number < 0)
+        return false;
+    struct cpu *cpu = &cpus[number];
+    const struct lr_record *record = &cpu->slots[cpu->next];
+    cpu->next += slots_of(record);
+    bool is_before_gap = cpu->next < cpu->slot_count && cpu->slots[cpu->next].type == LR_LOST;
+    *item = (struct item){record, number, is_before_gap};
+    return true;
+}
+
+/* ---- Whether the recording is whole: what the module wrote, as `control` says, was read. */
+
+static char why_incomplete[160]; /* empty: nothing speaks against it */
+static bool is_of_text;          /* the recording was made of text, in which more is missing */
+static bool is_lockdep_off;      /* lockdep had turned itself off at the end */
+
+/* Compares one line of `control` with the file of its CPU. The result is whether it is such a line. */
+static bool compare_cpu(const char *line) {
+    unsigned number;
+    unsigned long written;
+    if (sscanf(line, "cpu%u slots written %lu", &number, &written) != 2 || number >= MAX_CPUS)
+        return false;
+    if (cpus[number].slot_count != written)
+        snprintf(why_incomplete, sizeof why_incomplete, "the module wrote %lu slots on CPU %u, and %zu are there: was the disk full?", written,
+                 number, cpus[number].slot_count);
+    return true;
+}
+
+static void compare_control(void) {
+    size_t size;
+    char *text = read_raw("control", &size), *rest = text;
+    bool is_told = false;
+    for (char *line; text && (line = strsep(&rest, "\n"));) {
+        is_told = compare_cpu(line) || is_told;
+        is_of_text = is_of_text || !strcmp(line, "made of text");
+        is_lockdep_off = is_lockdep_off || !strcmp(line, "lockdep off");
+        if (!strncmp(line, "modules lost ", 13) && strcmp(line + 13, "0"))
+            snprintf(why_incomplete, sizeof why_incomplete, "there was no room for the symbols of all modules: classes of these may be joined");
+    }
+    if (!is_told)
+        snprintf(why_incomplete, sizeof why_incomplete, "%s/control isn't there or says nothing, so it isn't known whether all was read", options.raw);
+    free(text);
+}
+
+/* ---- Symbols: those of the kernel's image and of modules, by address. A module's are there from one record to another. */
+
+/* A module, as often as it was loaded. */
+struct load {
+    const char *name;
+    uint64_t from, until; /* numbers of records */
+    uint64_t start;       /* from which distances are told: its `__this_module`, which lies among its variables */
+};
 
 struct symbol {
     uint64_t address;
     size_t line; /* symbols of one address stay in the order of the file */
     const char *name;
+    int load; /* NO_LOAD: of the image */
 };
+
+#define NO_LOAD (-1)
+#define SYMBOLS_AROUND 4096 /* of modules, how many are looked at below an address */
 
 static struct symbol *symbols;
 static size_t symbol_count;
+static struct load *loads;
+static size_t load_count;
 static uint64_t image_start, image_end, percpu_start, percpu_end, no_validate;
 
 static int by_address(const void *a, const void *b) {
@@ -201,34 +283,89 @@ static void note_bound(const char *name, uint64_t address) {
         no_validate = address;
 }
 
-/* Reads lines in the format of /proc/kallsyms. Those of modules have a fourth word, and are left out. */
-static void load_symbols(void) {
-    char path[4096];
-    size_t size;
-    snprintf(path, sizeof path, "%s/symbols", options.raw);
-    char *text = read_file(options.symbols ? options.symbols : path, &size);
-    if (!text) {
-        if (options.symbols)
-            refuse(options.symbols, "can't be opened");
-        fputs("convert: there are no symbols: classes of one name are joined\n", stderr);
-        return;
-    }
-    char *rest = text;
-    for (char *line; (line = strsep(&rest, "\n"));) {
-        char *address = strsep(&line, " "), *kind = strsep(&line, " ");
-        if (!line || !kind || strpbrk(line, " \t["))
-            continue;
-        struct symbol symbol = {strtoull(address, NULL, 16), symbol_count, line};
-        note_bound(symbol.name, symbol.address);
-        PUSH(symbols, symbol_count, symbol);
-    }
-    qsort(symbols, symbol_count, sizeof *symbols, by_address);
-    if (symbol_count && !image_start)
-        refuse(options.symbols ? options.symbols : path, "has no _text, or root didn't read it");
+/* The newest load of a module, or NO_LOAD. */
+static int load_of(const char *name) {
+    for (size_t number = load_count; number-- > 0;)
+        if (!strcmp(loads[number].name, name))
+            return (int)number;
+    return NO_LOAD;
 }
 
-/* The symbol that contains an address: the last that isn't above it. */
-static const struct symbol *symbol_of(uint64_t address) {
+static int begin_load(const char *name, uint64_t from) {
+    struct load load = {.name = name, .from = from, .until = UINT64_MAX};
+    PUSH(loads, load_count, load);
+    return (int)load_count - 1;
+}
+
+static bool is_load_line(const char *line) { return !strncmp(line, "load ", 5) || !strncmp(line, "unload ", 7); }
+
+/* `load NUMBER NAME` or `unload NUMBER NAME`. */
+static void note_load(char *line) {
+    const char *word = strsep(&line, " "), *number = strsep(&line, " ");
+    if (!line)
+        return;
+    if (!strcmp(word, "load"))
+        begin_load(line, strtoull(number, NULL, 10));
+    else if (load_of(line) != NO_LOAD)
+        loads[load_of(line)].until = strtoull(number, NULL, 10);
+}
+
+/* The load of a symbol of the module that stands behind its name in brackets. */
+static int load_of_symbol(char *module) {
+    module[strcspn(module, "]")] = 0;
+    int load = load_of(module);
+    return load == NO_LOAD ? begin_load(module, 0) : load;
+}
+
+/* A line in the format of /proc/kallsyms: an address, a kind, a name, and perhaps a module. */
+static void add_symbol(char *line) {
+    char *address = strsep(&line, " "), *kind = strsep(&line, " "), *name = strsep(&line, "\t");
+    char *module = line && *line == '[' ? line + 1 : NULL;
+    if (!name || !kind || !*name || strchr(name, ' '))
+        return;
+    struct symbol symbol = {strtoull(address, NULL, 16), symbol_count, name, module ? load_of_symbol(module) : NO_LOAD};
+    if (!module)
+        note_bound(name, symbol.address);
+    else if (!strcmp(name, "__this_module"))
+        loads[symbol.load].start = symbol.address;
+    PUSH(symbols, symbol_count, symbol);
+}
+
+static void read_symbols(char *text) {
+    for (char *line; (line = strsep(&text, "\n"));)
+        if (is_load_line(line))
+            note_load(line);
+        else
+            add_symbol(line);
+}
+
+/* Symbols of the image and of modules that were loaded before, and then those of modules that were loaded later. */
+static void load_symbols(void) {
+    size_t size;
+    const char *name = options.symbols ? options.symbols : "the recording's `symbols`";
+    char *text = options.symbols ? read_file(options.symbols, &size) : read_raw("symbols", &size), *modules = read_raw("modules", &size);
+    if (!text && options.symbols)
+        refuse(options.symbols, "can't be opened");
+    if (text)
+        read_symbols(text);
+    if (symbol_count && !image_start)
+        refuse(name, "has no _text, or root didn't read it");
+    if (!symbol_count && !is_of_text) {
+        fputs("convert: there are no symbols: classes of one name are joined\n", stderr);
+        snprintf(why_incomplete, sizeof why_incomplete, "%s: %s", name, text ? "empty" : "missing");
+    }
+    if (modules)
+        read_symbols(modules);
+    qsort(symbols, symbol_count, sizeof *symbols, by_address);
+}
+
+/* Whether a symbol was there at a record. */
+static bool was_there(const struct symbol *symbol, uint64_t number) {
+    return symbol->load == NO_LOAD || (loads[symbol->load].from <= number && number <= loads[symbol->load].until);
+}
+
+/* The symbol that contains an address at a record: the last that isn't above it. Those of modules don't reach far. */
+static const struct symbol *symbol_at(uint64_t address, uint64_t number) {
     size_t low = 0, high = symbol_count;
     while (low < high) {
         size_t middle = (low + high) / 2;
@@ -237,22 +374,44 @@ static const struct symbol *symbol_of(uint64_t address) {
         else
             high = middle;
     }
-    return low ? &symbols[low - 1] : NULL;
+    size_t last = low > SYMBOLS_AROUND ? low - SYMBOLS_AROUND : 0;
+    while (low > last && !was_there(&symbols[low - 1], number))
+        low--;
+    if (low == last)
+        return NULL;
+    const struct symbol *symbol = &symbols[low - 1];
+    return symbol->load != NO_LOAD && address - symbol->address > MODULE_REACH ? NULL : symbol;
+}
+
+/* The function that a caller is in, of the image or of a module. */
+static const struct symbol *function_at(uint64_t place, uint64_t number) {
+    const struct symbol *symbol = symbol_at(place, number);
+    bool is_in_image = place >= image_start && place < image_end;
+    return symbol && (symbol->load != NO_LOAD || is_in_image) ? symbol : NULL;
+}
+
+/* The load whose module contains an address at a record, or NO_LOAD. */
+static int load_at(uint64_t address, uint64_t number) {
+    const struct symbol *symbol = load_count ? symbol_at(address, number) : NULL;
+    return symbol ? symbol->load : NO_LOAD;
 }
 
 /* ---- Classes: a key and the name that it had. */
 
-/* A name as the kernel has it, and how many keys have it. */
+/* A name as the kernel has it, and how many keys have it: in the image and in modules, and in memory. */
 struct name {
     char text[LR_NAME_ROOM + 1];
-    int image_keys, other_keys;
+    int static_keys, other_keys;
 };
 
 struct class {
-    uint64_t key;
+    uint64_t key; /* in a module: the distance from its start, which is the same as often as it is loaded */
     size_t name;
-    bool is_in_image, is_percpu;
-    size_t written; /* its name in the traces, see below */
+    bool is_static, is_percpu;
+    const char *module;          /* NULL: its key isn't in a module */
+    const struct symbol *symbol; /* that contains the key; NULL: none is known */
+    size_t written;              /* its name in the traces, see below */
+    uint64_t taker, taken_at;    /* who takes it first, and at which record; 0: nobody */
 };
 
 /* A key's current name: keys in memory are reused by other classes. */
@@ -264,6 +423,7 @@ struct key_use {
 /* A name as the traces have it, and the acquisitions of each of its subclasses. */
 struct written {
     char text[MAX_NAME + 1];
+    bool is_of_module; /* of --only-module */
     unsigned long uses[SUBCLASSES];
     bool is_chosen[SUBCLASSES];
 };
@@ -331,17 +491,34 @@ static size_t name_of_text(const char *text) {
     return name_count - 1;
 }
 
+/* The class of a key, except for its name. */
+static struct class class_of_key(uint64_t recorded_key, uint64_t number) {
+    struct class class = {.key = recorded_key};
+    class.key = shared_key(recorded_key, &class.is_percpu);
+    class.is_static = class.is_percpu || (image_end && class.key >= image_start && class.key < image_end);
+    class.symbol = symbol_at(class.key, number);
+    int load = class.is_static || !class.symbol ? NO_LOAD : class.symbol->load;
+    if (load != NO_LOAD) {
+        class.is_static = true;
+        class.module = loads[load].name;
+        class.key -= loads[load].start;
+    }
+    return class;
+}
+
+static bool is_same_key(const struct class *one, const struct class *other) {
+    bool is_same_module = one->module == other->module || (one->module && other->module && !strcmp(one->module, other->module));
+    return one->key == other->key && one->is_percpu == other->is_percpu && is_same_module;
+}
+
 /* The class of a key with a name, made if it isn't there. */
-static size_t class_of(uint64_t recorded_key, const char *text) {
-    bool is_percpu;
-    uint64_t key = shared_key(recorded_key, &is_percpu);
-    size_t name = name_of_text(text);
-    for (size_t number = 0; number < class_count; number++)
-        if (classes[number].key == key && classes[number].name == name && classes[number].is_percpu == is_percpu)
-            return number;
-    bool is_in_image = is_percpu || (image_end && key >= image_start && key < image_end);
-    struct class class = {key, name, is_in_image, is_percpu, 0};
-    *(is_in_image ? &names[name].image_keys : &names[name].other_keys) += 1;
+static size_t class_of(uint64_t recorded_key, const char *text, uint64_t number) {
+    struct class class = class_of_key(recorded_key, number);
+    class.name = name_of_text(text);
+    for (size_t other = 0; other < class_count; other++)
+        if (classes[other].name == class.name && is_same_key(&classes[other], &class))
+            return other;
+    *(class.is_static ? &names[class.name].static_keys : &names[class.name].other_keys) += 1;
     PUSH(classes, class_count, class);
     return class_count - 1;
 }
@@ -351,20 +528,27 @@ static uint64_t base_key(const struct lr_record *record) {
     return record->key < SUBCLASSES ? record->instance : record->key - (record->flags & LR_SUBCLASS);
 }
 
+/* A name that is a line of a file has the path by which a module was built, which isn't the same elsewhere: only the file stays. */
+static const char *without_folders(const char *text) {
+    const char *last = strrchr(text, '/');
+    return *text == '/' && strchr(last, '.') && strchr(last, ':') ? last + 1 : text;
+}
+
 static void learn_name(const struct lr_record *record) {
-    char text[LR_NAME_ROOM + 1];
-    memcpy(text, record + 1, LR_NAME_ROOM);
-    text[LR_NAME_ROOM] = 0;
+    char bytes[LR_NAME_ROOM + 1];
+    memcpy(bytes, record + 1, LR_NAME_ROOM);
+    bytes[LR_NAME_ROOM] = 0;
+    const char *text = without_folders(bytes);
     uint64_t key = record->key - (record->flags & LR_SUBCLASS);
     struct key_use *use = use_of_key(key);
     if (use->class == SIZE_MAX || strcmp(names[classes[use->class].name].text, text))
-        use->class = class_of(key, text);
+        use->class = class_of(key, text, record->number);
 }
 
 static size_t class_of_record(const struct lr_record *record) {
     struct key_use *use = use_of_key(base_key(record));
     if (use->class == SIZE_MAX)
-        use->class = class_of(use->key, "unnamed");
+        use->class = class_of(use->key, "unnamed", record->number);
     return use->class;
 }
 
@@ -372,21 +556,37 @@ static size_t class_of_record(const struct lr_record *record) {
    field, as `lock` often is. */
 static bool is_ambiguous(const struct class *class) {
     const struct name *name = &names[class->name];
-    bool is_several = options.full_names || name->image_keys + name->other_keys > 1;
-    return class->is_percpu || (class->is_in_image && is_several);
+    bool is_several = options.full_names || name->static_keys + name->other_keys > 1;
+    return class->is_percpu || (class->is_static && is_several);
+}
+
+/* Whether the symbol of a key says nothing. */
+static bool is_nameless(const struct class *class) {
+    return !strcmp(class->symbol->name, "__key") || !strncmp(class->symbol->name, "__key.", 6);
+}
+
+/* Appends the module and the distance from its start, or its symbol, which may be the lock itself. */
+static void tell_module(const struct class *class, char *end, size_t room, bool is_own) {
+    long long distance = (long long)class->key;
+    if (is_nameless(class))
+        snprintf(end, room, "@%s%c%llx", class->module, distance < 0 ? '-' : '+', distance < 0 ? -distance : distance);
+    else
+        snprintf(end, room, "@%s%s%s", class->module, is_own ? "" : ":", is_own ? "" : class->symbol->name);
 }
 
 /* Appends the symbol to a name, or the distance from the kernel's start if the symbol says nothing. A lock with the same
    name as its symbol keeps its name. */
 static void tell_apart(const struct class *class, char *text, size_t room) {
-    const struct symbol *symbol = symbol_of(class->key);
-    if (!symbol)
-        return;
     size_t length = strlen(text);
-    if (!strcmp(symbol->name, "__key") || !strncmp(symbol->name, "__key.", 6))
+    if (!class->symbol)
+        return;
+    bool is_own = !strcmp(class->symbol->name, text);
+    if (class->module)
+        tell_module(class, text + length, room - length, is_own);
+    else if (is_nameless(class))
         snprintf(text + length, room - length, "@%llx", (unsigned long long)(class->key - image_start));
-    else if (strcmp(symbol->name, text))
-        snprintf(text + length, room - length, "@%s", symbol->name);
+    else if (!is_own)
+        snprintf(text + length, room - length, "@%s", class->symbol->name);
 }
 
 /* Spaces and invisible characters become `_`; a name that is too long is cut, and ends with a checksum of the whole. */
@@ -422,6 +622,8 @@ static void name_classes(void) {
             tell_apart(class, text, sizeof text);
         make_name_valid(text);
         class->written = written_of_text(text);
+        if (class->module && options.only_module && !strcmp(class->module, options.only_module))
+            writtens[class->written].is_of_module = true;
     }
 }
 
@@ -460,29 +662,52 @@ static int by_uses(const void *a, const void *b) {
     return first < second ? -1 : 1;
 }
 
+/* Whether the module of --only-module takes a lock itself. */
+static bool is_by_module(const struct lr_record *record) {
+    int load = options.only_module ? load_at(record->place, record->number) : NO_LOAD;
+    return load != NO_LOAD && !strcmp(loads[load].name, options.only_module);
+}
+
+static void count_use(const struct lr_record *record) {
+    struct class *class = &classes[class_of_record(record)];
+    struct written *written = &writtens[class->written];
+    written->uses[record->flags & LR_SUBCLASS]++;
+    written->is_of_module = written->is_of_module || is_by_module(record);
+    if (class->taken_at)
+        return;
+    class->taker = record->place;
+    class->taken_at = record->number;
+}
+
 static void count_uses(void) {
+    struct item item;
     forget_names();
-    for (size_t number = 0; number < item_count; number++) {
-        const struct lr_record *record = items[number].record;
+    for (begin_items(); next_item(&item);) {
+        const struct lr_record *record = item.record;
         if (record->type == LR_NAME)
             learn_name(record);
         if (!is_lock(record) || !is_writable(record))
             continue;
         if (record->type == LR_ACQUIRE && (!(record->state & LR_LOOKED_AT) || (record->state & LR_IN_NMI)))
             continue;
-        writtens[classes[class_of_record(record)].written].uses[record->flags & LR_SUBCLASS]++;
+        count_use(record);
     }
 }
 
 static size_t keys_wanted, keys_chosen;
+
+/* Whether a class is asked for by its name or by its module. */
+static bool is_asked_for(const struct written *written) {
+    bool is_named = options.is_only && !regexec(&options.only, written->text, 0, NULL, 0);
+    return is_named || written->is_of_module || (!options.is_only && !options.only_module);
+}
 
 /* The keys whose class is selected, the most used of them. */
 static void choose_keys(void) {
     count_uses();
     size_t *keys = NULL, count = 0;
     for (size_t key = 0; key < written_count * SUBCLASSES; key++) {
-        bool is_wanted = !options.is_only || !regexec(&options.only, writtens[key / SUBCLASSES].text, 0, NULL, 0);
-        if (*uses_of_key(key) && is_wanted)
+        if (*uses_of_key(key) && is_asked_for(&writtens[key / SUBCLASSES]))
             PUSH(keys, count, key);
     }
     if (count)
@@ -506,6 +731,7 @@ static const char *const irq_names[] = {"task", "softirq", "hardirq"};
 struct event {
     uint8_t kind, what; /* a mode, or SOFTIRQ or HARDIRQ */
     int key;
+    uint64_t place, number; /* of an acquisition or a release: its caller, and the number of its record */
 };
 
 /* A lock that the task holds. */
@@ -516,6 +742,8 @@ struct held {
     int level;      /* the number of its frame, from the outermost */
     int references; /* 0, or how many locks of its class it represents, taken under a nest_lock: lockdep counts that way */
     uint64_t class_key;
+    uint64_t place, number; /* of its acquisition */
+    bool is_nested;         /* taken under a nest_lock */
 };
 
 /* What came last in a frame. */
@@ -551,7 +779,9 @@ struct task {
     struct stretch *stretches; /* where a state was met since the barrier, by hash */
     size_t stretch_room, stretch_count;
     unsigned long acquisitions;
-    size_t order; /* in which it was met */
+    size_t order;     /* in which it was met */
+    bool is_left_out; /* beyond what a run takes: others said the same */
+    char trace[64];   /* the name of its trace; empty: it has none */
 };
 
 struct stretch {
@@ -673,12 +903,12 @@ static void take(struct task *task, struct held held) {
     if (held.key == LEFT_OUT)
         return;
     task->acquisitions++;
-    add_event(task, (struct event){ACQ, (uint8_t)held.mode, held.key}, is_new);
+    add_event(task, (struct event){ACQ, (uint8_t)held.mode, held.key, held.place, held.number}, is_new);
 }
 
-/* Releases the lock at a place of the book. The trace releases the newest of its key in the frame: if that is another one,
+/* Releases the lock at a place of the book, by a record if there is one. The trace releases the newest of its key in the frame: if that is another one,
    it stays in the book at the older one's place, as it does in the trace. */
-static void give(struct task *task, int place) {
+static void give(struct task *task, int place, const struct lr_record *record) {
     int key = task->book[place].key, newest = place;
     for (int other = place + 1; other < task->held; other++)
         if (key != LEFT_OUT && task->book[other].key == key && task->book[other].level == task->book[place].level)
@@ -688,7 +918,7 @@ static void give(struct task *task, int place) {
     memmove(&task->book[newest], &task->book[newest + 1], (size_t)(task->held - newest - 1) * sizeof(struct held));
     task->held--;
     if (key != LEFT_OUT)
-        add_event(task, (struct event){REL, 0, key}, false);
+        add_event(task, (struct event){REL, 0, key, record ? record->place : 0, record ? record->number : 0}, false);
 }
 
 static void set_flag(struct task *task, enum frame irq, bool is_on) {
@@ -701,7 +931,7 @@ static void set_flag(struct task *task, enum frame irq, bool is_on) {
         uint64_t held = sum_of_held(task, task->level, 0);
         is_new = held && is_news(task, mix(held, sum_of_flags(level) | 1 << 8));
     }
-    add_event(task, (struct event){is_on ? ON : OFF, (uint8_t)irq, 0}, is_new);
+    add_event(task, (struct event){.kind = is_on ? ON : OFF, .what = (uint8_t)irq}, is_new);
 }
 
 /* Locks held in the innermost frame. */
@@ -714,7 +944,7 @@ static int held_in_frame(const struct task *task) {
 
 static void leave(struct task *task) {
     task->level--;
-    add_event(task, (struct event){LEAVE, 0, 0}, false);
+    add_event(task, (struct event){.kind = LEAVE}, false);
 }
 
 /* An entry needs the flags on. */
@@ -724,14 +954,14 @@ static void enter(struct task *task, enum frame irq, int depth) {
     set_flag(task, HARDIRQ, true);
     task->level++;
     *top(task) = (struct level){.frame = irq, .is_on = {false, false, irq == SOFTIRQ}, .difference = depth - task->held};
-    add_event(task, (struct event){ENTER, (uint8_t)irq, 0}, false);
+    add_event(task, (struct event){.kind = ENTER, .what = (uint8_t)irq}, false);
 }
 
 /* Releases everything, and returns to the task frame. */
 static void drop_all(struct task *task) {
     for (;;) {
         while (task->held && task->book[task->held - 1].level == task->level)
-            give(task, task->held - 1);
+            give(task, task->held - 1, NULL);
         if (task->level == 0)
             break;
         leave(task);
@@ -741,6 +971,8 @@ static void drop_all(struct task *task) {
     level->is_taking = level->is_giving = false;
     level->last = NOTHING;
 }
+
+static bool has_depth(const struct lr_record *record) { return record->depth != LR_NO_DEPTH; }
 
 /* What the task holds isn't known: nothing is written until it is. */
 static void go_blind(struct task *task) {
@@ -805,7 +1037,7 @@ static bool is_in_flight(struct task *task, int difference) {
         counts.taken_in_flight++;
         level->taking = task->book[task->held - 1];
         level->is_taking = true;
-        give(task, task->held - 1);
+        give(task, task->held - 1, NULL);
     } else if (difference == 1 && level->last == GAVE) {
         counts.given_in_flight++;
         level->is_giving = true;
@@ -813,6 +1045,14 @@ static bool is_in_flight(struct task *task, int difference) {
         return false;
     }
     return true;
+}
+
+/* Nothing says any more whether a lock in flight arrived: an acquisition did, unless the task was left there for ever. */
+static void end_flight(struct task *task) {
+    struct level *level = top(task);
+    if (level->is_taking)
+        take(task, level->taking);
+    level->is_taking = level->is_giving = false;
 }
 
 /* Whether the book has as many locks as lockdep. */
@@ -837,7 +1077,13 @@ static struct held held_of(const struct lr_record *record) {
     int subclass = record->flags & LR_SUBCLASS;
     bool is_written = is_writable(record) && writtens[written].is_chosen[subclass];
     int key = is_written ? (int)(written * SUBCLASSES) + subclass : LEFT_OUT;
-    return (struct held){record->instance, key, mode_of(record), 0, 0, base_key(record) + (uint64_t)subclass};
+    return (struct held){.instance = record->instance,
+                         .key = key,
+                         .mode = mode_of(record),
+                         .class_key = base_key(record) + (uint64_t)subclass,
+                         .place = record->place,
+                         .number = record->number,
+                         .is_nested = record->flags & LR_NEST};
 }
 
 static void count_left_out(const struct lr_record *record, const struct held *held) {
@@ -856,7 +1102,28 @@ static bool is_counted_only(const struct task *task, const struct lr_record *rec
     return (record->flags & LR_NEST) && task->held && task->book[task->held - 1].class_key == held->class_key;
 }
 
-static void acquire(struct task *task, const struct lr_record *record) {
+/* Whether an acquisition is safe by its nest_lock, so that lockdep draws no order from it: a lock of its class is held, and above it
+   the nest_lock. */
+static bool is_safe_by(const struct task *task, uint64_t nest_lock, uint64_t class_key) {
+    bool is_under = false;
+    for (int place = 0; place < task->held; place++) {
+        is_under = is_under || task->book[place].instance == nest_lock;
+        if (task->book[place].class_key == class_key && task->book[place].level == task->level)
+            return is_under;
+    }
+    return false;
+}
+
+/* An acquisition that waits for nothing is written as a try, which is how the format says that; version 1 can't. */
+static void make_try(struct held *held) {
+    counts.nested++;
+    if (options.version == 1)
+        held->key = LEFT_OUT;
+    else if (held->mode < TRY_WRITE)
+        held->mode += TRY_WRITE;
+}
+
+static void acquire(struct task *task, const struct lr_record *record, uint64_t nest_lock) {
     struct held held = held_of(record);
     counts.acquisitions++;
     if (top(task)->taking.instance == record->instance)
@@ -871,7 +1138,21 @@ static void acquire(struct task *task, const struct lr_record *record) {
         return;
     }
     count_left_out(record, &held);
+    if (nest_lock && held.key != LEFT_OUT && is_safe_by(task, nest_lock, held.class_key))
+        make_try(&held);
     take(task, held);
+}
+
+/* When a lock is released, lockdep takes the later ones anew, so that one under a nest_lock is only counted if it then comes right
+   after one of its class. */
+static void merge(struct task *task, int place, const struct lr_record *record) {
+    if (place < 1 || place >= task->held)
+        return;
+    struct held *lower = &task->book[place - 1], *upper = &task->book[place];
+    if (!upper->is_nested || lower->class_key != upper->class_key)
+        return;
+    lower->references = (lower->references ? lower->references : 1) + (upper->references ? upper->references : 1);
+    give(task, place, record);
 }
 
 /* The newest lock of the book with this address; otherwise the newest that was taken under a nest_lock, since that knows
@@ -889,7 +1170,7 @@ static int place_of(const struct task *task, uint64_t instance) {
 /* A CPU that isn't online records nothing: its idle task may have taken a lock meanwhile, and lockdep has one more. */
 static void release_unknown(struct task *task, const struct lr_record *record) {
     counts.unknown_releases++;
-    if (task->pid == 0 && task->level == 0 && record->depth == task->held + 1)
+    if (!has_depth(record) || (task->pid == 0 && task->level == 0 && record->depth == task->held + 1))
         top(task)->is_giving = false;
     else
         mismatch(task);
@@ -905,12 +1186,34 @@ static void release(struct task *task, const struct lr_record *record) {
     } else if (task->book[place].level != task->level) {
         mismatch(task); /* an interrupt released what was taken outside: no trace can express that */
     } else {
-        give(task, place);
+        give(task, place, record);
+        merge(task, place, record);
     }
+}
+
+/* What the task held before a gap isn't known. Without lockdep's own account it never will be, and counts as released. */
+static void forget_gap(struct task *task) {
+    if (task->is_after_gap)
+        drop_all(task);
+    task->is_blind = task->is_after_gap = false;
+}
+
+/* The same for one without a depth, which isn't compared with anything. */
+static bool prepare_uncompared(struct task *task, const struct lr_record *record) {
+    counts.off++;
+    forget_gap(task);
+    if (!leave_frames(task, record->state))
+        drop_all(task);
+    enter_frames(task, record->state, task->held);
+    end_flight(task);
+    counts.readers += task->level == 0 && task->is_reader;
+    return task->level > 0 || !task->is_reader;
 }
 
 /* Frames and the book's length, before a record is written. False: the record isn't to be written. */
 static bool prepare(struct task *task, const struct lr_record *record) {
+    if (!has_depth(record))
+        return prepare_uncompared(task, record);
     if (task->is_blind && record->depth == 0)
         task->is_blind = false;
     if (task->is_blind) {
@@ -936,7 +1239,7 @@ static bool prepare(struct task *task, const struct lr_record *record) {
     return true;
 }
 
-static void step(struct task *task, const struct lr_record *record) {
+static void step(struct task *task, const struct lr_record *record, uint64_t nest_lock) {
     task->is_new = false;
     if (task->is_full) {
         counts.beyond_limit++;
@@ -949,7 +1252,7 @@ static void step(struct task *task, const struct lr_record *record) {
     set_flags(task, state);
     enum last last = NOTHING;
     if (record->type == LR_ACQUIRE) {
-        acquire(task, record);
+        acquire(task, record, nest_lock);
         last = TOOK;
     } else if (record->type == LR_RELEASE) {
         release(task, record);
@@ -973,17 +1276,38 @@ static struct task *new_task(const struct lr_record *record, uint64_t address) {
     return task;
 }
 
+static size_t *task_table; /* tasks' numbers plus 1, by hash; a full half is made larger */
+static size_t task_room;
+
+static bool is_task_of(const struct task *task, const struct lr_record *record) {
+    bool is_reader = record->flags & LR_READER;
+    return task->address == record->place && task->pid == record->pid && task->is_reader == is_reader;
+}
+
+static size_t slot_of_task(uint64_t address, uint32_t pid) { return mix(mix(0, address), pid) & (task_room - 1); }
+
+static void grow_task_table(void) {
+    free(task_table);
+    task_room = task_room ? 2 * task_room : 1024;
+    task_table = checked(calloc(task_room, sizeof *task_table));
+    for (size_t number = 0; number < task_count; number++) {
+        size_t slot = slot_of_task(tasks[number]->address, tasks[number]->pid);
+        while (task_table[slot])
+            slot = (slot + 1) & (task_room - 1);
+        task_table[slot] = number + 1;
+    }
+}
+
 /* The task of an LR_TASK: known by its pid and its `task_struct`, and apart from itself while it reads the recording. */
 static struct task *task_of(const struct lr_record *record) {
-    struct task *found = NULL;
-    for (size_t number = task_count; number-- > 0 && !found;) {
-        struct task *task = tasks[number];
-        bool is_reader = record->flags & LR_READER;
-        if (task->address == record->place && task->pid == record->pid && task->is_reader == is_reader)
-            found = task;
-    }
-    if (!found)
-        found = new_task(record, record->place);
+    if (2 * task_count >= task_room)
+        grow_task_table();
+    size_t slot = slot_of_task(record->place, record->pid);
+    while (task_table[slot] && !is_task_of(tasks[task_table[slot] - 1], record))
+        slot = (slot + 1) & (task_room - 1);
+    struct task *found = task_table[slot] ? tasks[task_table[slot] - 1] : new_task(record, record->place);
+    if (!task_table[slot])
+        task_table[slot] = task_count;
     memcpy(found->comm, &record->instance, 8);
     memcpy(found->comm + 8, &record->key, 8);
     return found;
@@ -1012,8 +1336,24 @@ static void take_list(struct task *task, struct cpu *cpu) {
         take(task, held_of(cpu->list[number]));
 }
 
+static bool is_lockdep_seen; /* whether an event had a depth */
+
+/* A task's list is from when lockdep turned itself off. It holds for a task that was seen for the first time since, unless that was before
+   the recording. */
+static void end_old_switch(struct cpu *cpu) {
+    struct task *task = cpu->task;
+    if (task->is_new && !task->is_reader && is_lockdep_seen && !(cpu->switched->state & (LR_IN_HARDIRQ | LR_IN_SOFTIRQ)))
+        take_list(task, cpu);
+    task->is_new = false;
+    cpu->switched = NULL;
+}
+
 /* A task's list is complete: the book is compared with it, or begins with it. */
 static void end_switch(struct cpu *cpu) {
+    if (cpu->switched->flags & LR_OFF) {
+        end_old_switch(cpu);
+        return;
+    }
     struct task *task = cpu->task;
     const struct lr_record *record = cpu->switched;
     bool is_first = task->is_new || task->is_blind || task->is_after_gap;
@@ -1078,55 +1418,183 @@ static void end_gap(struct cpu *cpu, const struct lr_record *record) {
 
 static void event_of(struct cpu *cpu, const struct lr_record *record) {
     counts.records++;
-    if (record->state & LR_LOOKED_AT)
-        counts.after_lockdep = 0;
-    else
-        counts.after_lockdep++;
+    is_lockdep_seen = is_lockdep_seen || has_depth(record);
+    counts.after_lockdep = record->state & LR_LOOKED_AT ? 0 : counts.after_lockdep + 1;
     if (!(record->state & LR_LOOKED_AT) || (record->state & LR_IN_NMI))
         counts.not_looked_at++;
     else if (!cpu->task)
         counts.untold++;
     else
-        step(cpu->task, record);
+        step(cpu->task, record, cpu->nest_lock);
+    cpu->nest_lock = 0;
+}
+
+static void take_item(const struct item *item) {
+    const struct lr_record *record = item->record;
+    struct cpu *cpu = &cpus[item->cpu];
+    if (record->type == LR_NAME)
+        learn_name(record);
+    else if (record->type == LR_TASK)
+        begin_switch(cpu, record);
+    else if (record->type == LR_HELD)
+        add_to_list(cpu, record);
+    else if (record->type == LR_LOST)
+        end_gap(cpu, record);
+    else if (record->type == LR_UNDER)
+        cpu->nest_lock = record->instance;
+    else if (is_event(record))
+        event_of(cpu, record);
+    if (item->is_before_gap)
+        begin_gap(cpu);
 }
 
 static void convert(void) {
+    struct item item;
     forget_names();
-    for (size_t number = 0; number < item_count; number++) {
-        const struct lr_record *record = items[number].record;
-        struct cpu *cpu = &cpus[items[number].cpu];
-        if (record->type == LR_NAME)
-            learn_name(record);
-        else if (record->type == LR_TASK)
-            begin_switch(cpu, record);
-        else if (record->type == LR_HELD)
-            add_to_list(cpu, record);
-        else if (record->type == LR_LOST)
-            end_gap(cpu, record);
-        else if (is_event(record))
-            event_of(cpu, record);
-        if (items[number].is_before_gap)
-            begin_gap(cpu);
-    }
+    for (begin_items(); next_item(&item);)
+        take_item(&item);
 }
 
-/* The first pass: where CPUs have their variables, and all names. */
-static void learn(void) {
-    for (size_t number = 0; number < item_count; number++) {
-        const struct lr_record *record = items[number].record;
-        if (record->type != LR_CPU || record->key >= MAX_CPUS)
+/* Where CPUs have their variables, which their first record says. */
+static void learn_cpus(void) {
+    for (int number = 0; number < cpu_count; number++) {
+        const struct lr_record *record = cpus[number].slots;
+        if (!cpus[number].slot_count || record->type != LR_CPU || record->key >= MAX_CPUS)
             continue;
         cpus[record->key].base = record->instance;
         cpus[record->key].is_based = true;
     }
-    for (size_t number = 0; number < item_count; number++) {
-        const struct lr_record *record = items[number].record;
-        if (record->type == LR_NAME)
-            learn_name(record);
-        else if (is_lock(record))
-            class_of_record(record);
-    }
+}
+
+/* The first pass: all names. */
+static void learn(void) {
+    struct item item;
+    learn_cpus();
+    for (begin_items(); next_item(&item);)
+        if (item.record->type == LR_NAME)
+            learn_name(item.record);
+        else if (is_lock(item.record))
+            class_of_record(item.record);
     name_classes();
+}
+
+/* ---- Tasks beyond what a run takes: those that say what others said are left out, and others share a trace. */
+
+/* What a task's trace can say: what it takes in which state, as `is_news` sums it up. */
+struct said {
+    uint64_t chain;
+    unsigned times; /* how many traces say it */
+};
+
+static struct said *saids; /* by hash */
+static size_t said_room;
+
+static struct said *said_of(uint64_t chain) {
+    size_t slot = chain & (said_room - 1);
+    while (saids[slot].chain && saids[slot].chain != chain)
+        slot = (slot + 1) & (said_room - 1);
+    saids[slot].chain = chain;
+    return &saids[slot];
+}
+
+static void make_saids(void) {
+    size_t count = 0;
+    for (size_t number = 0; number < task_count; number++)
+        count += tasks[number]->seen_count;
+    for (said_room = 1024; said_room < 2 * count;)
+        said_room *= 2;
+    saids = checked(calloc(said_room, sizeof *saids));
+}
+
+static bool says_more(const struct task *task) {
+    for (size_t slot = 0; slot < task->seen_room; slot++)
+        if (task->seen[slot] && said_of(task->seen[slot])->times < ALIKE)
+            return true;
+    return false;
+}
+
+static void note_said(const struct task *task) {
+    for (size_t slot = 0; slot < task->seen_room; slot++)
+        if (task->seen[slot])
+            said_of(task->seen[slot])->times++;
+}
+
+static bool has_trace(const struct task *task) { return task->acquisitions && !task->is_left_out; }
+
+/* Leaves out tasks of whose acquisitions each is in two other traces: so no fact is lost, nor that several tasks say it. With
+   --repeats it isn't known what a task says. */
+static void leave_out_alike(void) {
+    if (options.repeats)
+        return;
+    make_saids();
+    for (size_t number = 0; number < task_count; number++) {
+        struct task *task = tasks[number];
+        task->is_left_out = task->acquisitions && !says_more(task);
+        counts.alike += task->is_left_out;
+        if (has_trace(task))
+            note_said(task);
+    }
+    free(saids);
+}
+
+/* Whether another task's records can follow in the same trace: nothing is held at the end. */
+static bool can_share(const struct task *task) {
+    for (int place = 0; place < task->held; place++)
+        if (task->book[place].key != LEFT_OUT)
+            return false;
+    return has_trace(task) && !task->is_full;
+}
+
+static int by_events(const void *a, const void *b) {
+    const struct task *first = *(struct task *const *)a, *second = *(struct task *const *)b;
+    if (first->event_count != second->event_count)
+        return first->event_count < second->event_count ? -1 : 1;
+    return first->order < second->order ? -1 : 1;
+}
+
+/* Ends a task's records as they began, so that those of another task may follow. */
+static void return_to_start(struct task *task) {
+    task->held = 0;
+    while (task->level > 0)
+        leave(task);
+    set_flag(task, SOFTIRQ, true);
+    set_flag(task, HARDIRQ, true);
+}
+
+/* Lets the tasks with the fewest events share traces, as many as are too many. */
+static void share_traces(size_t excess) {
+    struct task **sharing = NULL;
+    size_t count = 0, events = 0, trace = 0;
+    for (size_t number = 0; number < task_count; number++)
+        if (can_share(tasks[number]))
+            PUSH(sharing, count, tasks[number]);
+    if (count)
+        qsort(sharing, count, sizeof *sharing, by_events);
+    for (size_t number = 0; number < count && excess; number++) {
+        return_to_start(sharing[number]);
+        bool is_first = !trace || events + sharing[number]->event_count > MAX_EVENTS;
+        trace += is_first;
+        events = (is_first ? 0 : events) + sharing[number]->event_count;
+        excess -= !is_first;
+        snprintf(sharing[number]->trace, sizeof sharing[number]->trace, "several-%04zu.csv", trace);
+        counts.shared++;
+    }
+    free(sharing);
+}
+
+static size_t count_traces(void) {
+    size_t count = 0;
+    for (size_t number = 0; number < task_count; number++)
+        count += has_trace(tasks[number]);
+    return count;
+}
+
+static void limit_traces(void) {
+    if (count_traces() > options.most_traces)
+        leave_out_alike();
+    size_t count = count_traces();
+    if (count > options.most_traces)
+        share_traces(count - options.most_traces);
 }
 
 /* ---- What is written. */
@@ -1179,16 +1647,48 @@ static void write_event(FILE *file, const struct event *event) {
     }
 }
 
-static void write_trace(const struct task *task, FILE *list) {
-    char name[32];
-    snprintf(name, sizeof name, "task-%04lu.csv", ++counts.traces);
-    fprintf(list, "%s %u %s%s\n", name, task->pid, task->comm, task->is_reader ? " (reads the recording)" : "");
-    FILE *file = open_file(name);
+/* Where an acquisition or a release comes from, in words that `lockdep where` reads: the module or `vmlinux`, a line that isn't known,
+   and the function. */
+static void write_place(FILE *file, uint64_t place, uint64_t number) {
+    const struct symbol *symbol = function_at(place, number);
+    if (symbol)
+        fprintf(file, "%s:0 %s+0x%llx", symbol->load == NO_LOAD ? "vmlinux" : loads[symbol->load].name, symbol->name,
+                (unsigned long long)(place - symbol->address));
+}
+
+/* Writes the records of a task at the end of its trace, which has some already if tasks share it. The result is how many it has then. */
+static size_t write_events(const struct task *task, FILE *file, FILE *places, size_t record) {
+    for (size_t number = 0; number < task->event_count; number++) {
+        const struct event *event = &task->events[number];
+        record++;
+        write_event(file, event);
+        if (!event->number || !function_at(event->place, event->number))
+            continue;
+        fprintf(places, "%zu ", record);
+        write_place(places, event->place, event->number);
+        fputc('\n', places);
+    }
+    return record;
+}
+
+/* Writes a trace, with all tasks from this one on that share it. */
+static void write_trace(size_t first) {
+    char places[80];
+    size_t record = 1;
+    snprintf(places, sizeof places, "%s.places", tasks[first]->trace);
+    FILE *file = open_file(tasks[first]->trace), *file_of_places = open_file(places);
     fprintf(file, "lockdep,%d\n", options.version);
-    for (size_t number = 0; number < task->event_count; number++)
-        write_event(file, &task->events[number]);
-    counts.events += task->event_count;
+    for (size_t number = first; number < task_count; number++) {
+        struct task *task = tasks[number];
+        if (!has_trace(task) || strcmp(task->trace, tasks[first]->trace))
+            continue;
+        record = write_events(task, file, file_of_places, record);
+        task->acquisitions = 0; /* it is written */
+    }
+    counts.traces++;
+    counts.events += record - 1;
     close_file(file);
+    close_file(file_of_places);
 }
 
 /* Tasks are ordered by pid; those with the same pid in the order in which they occurred, and the idle tasks by name, which
@@ -1201,21 +1701,93 @@ static int by_pid(const void *a, const void *b) {
     return order ? order : (first->order < second->order ? -1 : 1);
 }
 
-static void write_traces(void) {
-    FILE *list = open_file("tasks");
+static void sort_tasks(void) {
     for (size_t number = 0; number < task_count; number++)
         tasks[number]->order = number;
     if (task_count)
         qsort(tasks, task_count, sizeof *tasks, by_pid);
+}
+
+/* Calls a trace COMM-PID.csv, and the next ones of that name COMM-PID-2.csv and so on. They stand next to one another. */
+static void name_trace(size_t number, size_t *same) {
+    struct task *task = tasks[number];
+    const char *allowed = "abcdefghijklmnopqrstuvwxyzABCDEFGHIJKLMNOPQRSTUVWXYZ0123456789_+.";
+    char comm[sizeof task->comm];
+    snprintf(comm, sizeof comm, "%s", *task->comm ? task->comm : "unnamed");
+    for (char *byte = comm; *byte; byte++)
+        if (!strchr(allowed, *byte) || (byte == comm && *byte == '.'))
+            *byte = '_';
+    *same = number && tasks[number - 1]->pid == task->pid ? *same + 1 : 1;
+    int length = snprintf(task->trace, sizeof task->trace, "%s-%u", comm, task->pid);
+    if (*same > 1 && task->pid)
+        length += snprintf(task->trace + length, sizeof task->trace - (size_t)length, "-%zu", *same);
+    snprintf(task->trace + length, sizeof task->trace - (size_t)length, ".csv");
+}
+
+static void name_traces(void) {
+    size_t same = 1;
     for (size_t number = 0; number < task_count; number++)
-        if (tasks[number]->acquisitions)
-            write_trace(tasks[number], list);
+        name_trace(number, &same);
+}
+
+/* Lists the tasks that have a trace: its name, the task's pid and name. */
+static void write_list(void) {
+    FILE *list = open_file("tasks");
+    for (size_t number = 0; number < task_count; number++)
+        if (has_trace(tasks[number]))
+            fprintf(list, "%s %u %s%s\n", tasks[number]->trace, tasks[number]->pid, tasks[number]->comm,
+                    tasks[number]->is_reader ? " (reads the recording)" : "");
     close_file(list);
+}
+
+static void write_traces(void) {
+    sort_tasks();
+    name_traces();
+    limit_traces();
+    write_list();
+    for (size_t number = 0; number < task_count; number++)
+        if (has_trace(tasks[number]))
+            write_trace(number);
+}
+
+static void write_taker(FILE *file, const struct class *class) {
+    bool is_known = function_at(class->taker, class->taken_at);
+    if (is_known)
+        write_place(file, class->taker, class->taken_at);
+    fputs(is_known ? "\t-\tfirst taken by\n" : "-\t-\t-\n", file);
+}
+
+/* Writes what `lockdep where` reads of classes: the symbol that contains the key, or if that says nothing, who takes it first. */
+static void write_classes(void) {
+    FILE *file = open_file("classes");
+    for (size_t number = 0; number < class_count; number++) {
+        const struct class *class = &classes[number];
+        bool is_named = class->is_static && class->symbol && !is_nameless(class);
+        if (!class->taken_at)
+            continue;
+        fprintf(file, "%s\t", writtens[class->written].text);
+        if (is_named)
+            fprintf(file, "%s:0 %s\t-\tstatic\n", class->module ? class->module : "vmlinux", class->symbol->name);
+        else
+            write_taker(file, class);
+    }
+    close_file(file);
 }
 
 static void tell(FILE *file, unsigned long count, const char *what, bool is_always) {
     if (count || is_always)
         fprintf(file, "%s %lu\n", what, count);
+}
+
+/* Who takes a class first whose name ends with a distance. */
+static void tell_takers(FILE *file) {
+    for (size_t number = 0; number < class_count; number++) {
+        const struct class *class = &classes[number];
+        bool is_by_distance = is_ambiguous(class) && class->symbol && is_nameless(class);
+        const struct symbol *taker = is_by_distance ? function_at(class->taker, class->taken_at) : NULL;
+        if (taker)
+            fprintf(file, "class %s is first taken by %s\n", writtens[class->written].text, taker->name);
+    }
 }
 
 /* Names that several classes share in the traces. */
@@ -1251,36 +1823,79 @@ static void tell_summary(FILE *file) {
     tell(file, counts.readers, "left out: records of tasks that read the recording", false);
     tell(file, counts.unknown_releases, "releases of locks that the task wasn't seen to take", false);
     tell(file, counts.beyond_limit, "left out: records of tasks whose trace is full", false);
+    tell(file, counts.nested, "acquisitions under a nest_lock, by which they are safe", false);
+    tell(file, counts.off, is_of_text ? "records without lockdep's account" : "records after lockdep turned itself off", false);
+    tell(file, counts.alike, "left out: tasks that do what two others do, by which nothing is lost", false);
+    tell(file, counts.shared, "tasks that share a trace, since a run takes 4096", false);
     tell(file, counts.untold, "left out: records of a CPU before its task was told", false);
     tell_joined(file);
 }
 
-/* Says on standard error what the traces lack or get wrong. Returns the status. */
-static int tell_faults(void) {
-    int status = 0;
-    if (counts.lost || counts.gaps)
+/* Says on standard error what a recording lacks. The result is whether it is something. */
+static bool tell_incomplete(void) {
+    bool is_lost = counts.lost || counts.gaps, is_off = counts.off && !is_of_text;
+    if (is_lost)
         fprintf(stderr, "convert: %lu records were lost in %lu gaps: the traces may have false orders\n", counts.lost, counts.gaps);
+    if (counts.cut_files)
+        fputs("convert: a file of the recording ends within a record\n", stderr);
+    if (*why_incomplete)
+        fprintf(stderr, "convert: %s\n", why_incomplete);
+    if (is_off || is_lockdep_off)
+        fprintf(stderr, "convert: lockdep turned itself off (dmesg says why): the %lu records since then couldn't be compared with its account\n",
+                counts.off);
+    if (counts.after_lockdep)
+        fprintf(stderr, "convert: lockdep looked at none of the last %lu events: has it turned itself off?\n", counts.after_lockdep);
+    if (counts.untold)
+        fprintf(stderr, "convert: of %lu records it isn't known which task they are of\n", counts.untold);
+    return is_lost || counts.cut_files || *why_incomplete || is_off || is_lockdep_off || counts.after_lockdep || counts.untold;
+}
+
+/* Says on standard error what of the recording isn't in the traces, or may be wrong there. The result is whether it is something. */
+static bool tell_left_out(void) {
+    size_t keys = keys_wanted - keys_chosen;
     if (counts.mismatches)
         fprintf(stderr, "convert: %lu times the locks held weren't as many as lockdep's: the task was left out until they were\n",
                 counts.mismatches);
-    if (counts.cut_files)
-        fputs("convert: a file of the recording ends within a record\n", stderr);
-    if (counts.lost || counts.gaps || counts.mismatches || counts.cut_files)
-        status = 1;
-    if (!counts.traces)
-        fputs("convert: no task took a lock that is asked for: there are no traces\n", stderr);
+    if (keys)
+        fprintf(stderr, "convert: %zu keys were left out, the least used: nothing is known of them; `lockdep check --many` takes %d\n", keys,
+                DEFAULT_KEYS);
     if (counts.beyond_limit)
         fprintf(stderr, "convert: traces end at %d events\n", MAX_EVENTS);
-    if (counts.traces > MAX_TRACES)
-        fprintf(stderr, "convert: there are more than %d traces: give check a part of them\n", MAX_TRACES);
-    if (counts.after_lockdep)
-        fprintf(stderr, "convert: lockdep looked at none of the last %lu events: has it turned itself off?\n", counts.after_lockdep);
-    return status;
+    if (counts.traces > options.most_traces)
+        fprintf(stderr, "convert: there are more than %lu traces: most of the tasks end with a lock held\n", options.most_traces);
+    return counts.mismatches || keys || counts.beyond_limit || counts.traces > options.most_traces;
+}
+
+/* Says what no recording of text has. */
+static void tell_text(void) {
+    if (is_of_text)
+        fputs("convert: text doesn't tell subclasses, recursive readers, nest_lock or two classes of one name: there may be false cycles\n",
+              stderr);
+}
+
+/* Says on standard error what the traces lack or get wrong. Returns the status. */
+static int tell_faults(void) {
+    tell_text();
+    bool is_incomplete = tell_incomplete(), is_less = tell_left_out();
+    if (!counts.records)
+        fputs("convert: nothing was recorded\n", stderr);
+    else if (!counts.traces)
+        fputs("convert: no task took a lock that is asked for: there are no traces\n", stderr);
+    return !counts.traces ? 2 : is_incomplete || is_less;
 }
 
 /* ---- The command line. */
 
-static const char usage[] = "usage: convert [-o FOLDER] [--version-1] [--repeats] [--full-names] [--only RE] [--keys N] [--symbols FILE] RAW";
+static const char usage[] = "usage: convert [-o FOLDER] [--version-1] [--repeats] [--full-names] [--only RE] [--only-module NAME] [--keys N] "
+                            "[--symbols FILE] [--vmlinux FILE] [--ko FILE]... RAW";
+
+static bool takes_value(const char *word) {
+    static const char *const all[] = {"-o", "--only", "--only-module", "--symbols", "--keys", "--most-traces", "--vmlinux", "--ko"};
+    for (size_t number = 0; number < sizeof all / sizeof *all; number++)
+        if (!strcmp(word, all[number]))
+            return true;
+    return false;
+}
 
 static void set_only(const char *expression) {
     char why[256];
@@ -1292,27 +1907,34 @@ static void set_only(const char *expression) {
     options.is_only = true;
 }
 
-static void set_keys(const char *number) {
+static unsigned long number_of(const char *option, const char *text) {
     char *end;
-    options.keys = strtoul(number, &end, 10);
-    if (*end || !options.keys)
-        refuse("--keys", "needs a number");
+    unsigned long number = strtoul(text, &end, 10);
+    if (*end || !number)
+        refuse(option, "needs a number");
+    return number;
 }
 
 static void read_options(int count, char **words) {
     for (int number = 1; number < count; number++) {
         const char *word = words[number], *next = words[number + 1];
-        bool has_value = !strcmp(word, "-o") || !strcmp(word, "--only") || !strcmp(word, "--symbols") || !strcmp(word, "--keys");
+        bool has_value = takes_value(word);
         if (has_value && !next)
             refuse(word, "needs a value");
         if (!strcmp(word, "-o"))
             options.folder = next;
         else if (!strcmp(word, "--only"))
             set_only(next);
+        else if (!strcmp(word, "--only-module"))
+            options.only_module = next;
         else if (!strcmp(word, "--keys"))
-            set_keys(next);
+            options.keys = number_of(word, next);
+        else if (!strcmp(word, "--most-traces"))
+            options.most_traces = number_of(word, next);
         else if (!strcmp(word, "--symbols"))
             options.symbols = next;
+        else if (!strcmp(word, "--vmlinux") || !strcmp(word, "--ko"))
+            ; /* of `lines`, which comes afterwards */
         else if (!strcmp(word, "--version-1"))
             options.version = 1;
         else if (!strcmp(word, "--full-names"))
@@ -1329,35 +1951,46 @@ static void read_options(int count, char **words) {
         refuse("RAW", usage);
 }
 
-/* Removes the traces of an earlier recording. */
+/* Removes the trace that a line of `tasks` names, and its places. */
+static void remove_trace(char *line) {
+    char path[4096];
+    const char *name = strsep(&line, " ");
+    size_t length = strlen(name);
+    if (length < 5 || strcmp(name + length - 4, ".csv") || strchr(name, '/'))
+        return;
+    snprintf(path, sizeof path, "%s/%s", options.folder, name);
+    remove(path);
+    snprintf(path, sizeof path, "%s/%s.places", options.folder, name);
+    remove(path);
+}
+
+/* Removes the traces of an earlier recording, which it listed. */
 static void clear_folder(void) {
+    char path[4096];
+    size_t size;
     if (mkdir(options.folder, 0777) && errno != EEXIST)
         refuse(options.folder, "can't be made");
-    DIR *folder = opendir(options.folder);
-    if (!folder)
-        refuse(options.folder, "can't be opened");
-    for (struct dirent *entry; (entry = readdir(folder));) {
-        char path[4096];
-        size_t length = strlen(entry->d_name);
-        if (strncmp(entry->d_name, "task-", 5) || length < 4 || strcmp(entry->d_name + length - 4, ".csv"))
-            continue;
-        snprintf(path, sizeof path, "%s/%s", options.folder, entry->d_name);
-        remove(path);
-    }
-    closedir(folder);
+    snprintf(path, sizeof path, "%s/tasks", options.folder);
+    char *list = read_file(path, &size), *rest = list;
+    for (char *line; list && (line = strsep(&rest, "\n"));)
+        remove_trace(line);
+    free(list);
 }
 
 int main(int count, char **words) {
     read_options(count, words);
-    load_items();
+    load_cpus();
+    compare_control();
     load_symbols();
     learn();
     choose_keys();
     convert();
     clear_folder();
     write_traces();
+    write_classes();
     FILE *summary = open_file("SUMMARY");
     tell_summary(summary);
+    tell_takers(summary);
     close_file(summary);
     tell_summary(stdout);
     return tell_faults();

@@ -3,7 +3,14 @@
    and write to their own buffers, with interrupts off: they take no lock, and call nothing that is traced.
 
    debugfs/lockrec/cpuN     the records of one CPU (record.h), read until the recording is stopped and the buffer is empty
-   debugfs/lockrec/control  reading it says what was found, written and lost; `start` and `stop` are written to it */
+   debugfs/lockrec/modules  the symbols of modules that were loaded since this one, see note_module()
+   debugfs/lockrec/control  reading it says what was found, written and lost; `start` and `stop` are written to it
+
+   Linux 6.1 to 6.12. */
+#ifndef CONFIG_PROVE_LOCKING
+#error "the kernel needs CONFIG_PROVE_LOCKING"
+#else
+
 #include <linux/atomic.h>
 #include <linux/debugfs.h>
 #include <linux/delay.h>
@@ -11,20 +18,20 @@
 #include <linux/irqflags.h>
 #include <linux/lockdep.h>
 #include <linux/module.h>
+#include <linux/notifier.h>
 #include <linux/mutex.h>
+#include <linux/preempt.h>
+#include <linux/rcupdate.h>
 #include <linux/sched.h>
 #include <linux/sched/signal.h>
 #include <linux/seq_file.h>
+#include <linux/spinlock.h>
 #include <linux/string.h>
 #include <linux/tracepoint.h>
 #include <linux/uaccess.h>
 #include <linux/vmalloc.h>
 
 #include "record.h"
-
-#ifndef CONFIG_PROVE_LOCKING
-#error "the kernel needs CONFIG_PROVE_LOCKING"
-#endif
 
 MODULE_LICENSE("GPL");
 MODULE_DESCRIPTION("Records lock events for lockdep");
@@ -42,6 +49,7 @@ MODULE_PARM_DESC(lock_classes_at, "the address of lock_classes in /proc/kallsyms
 #define RESUME_ROOM 4096 /* slots that have to be free before recording continues after a loss */
 #define READ_PART 8      /* a reader waits until such a part of the buffer is full, */
 #define READ_PAUSE 20    /* and looks after so many milliseconds */
+#define TEXT_ROOM (4 << 20) /* bytes of `modules` */
 
 struct seen {
 	u64 key;
@@ -57,6 +65,7 @@ struct buffer {
 	pid_t pid;
 	int generation;
 	bool is_busy, is_fresh;
+	bool is_off; /* whether lockdep has turned itself off, at the current event */
 	struct task_struct *reader; /* who has the file open */
 	struct task_struct *asked;  /* of whom it was asked last whether it is a reader, */
 	int asked_generation;       /* when, */
@@ -198,19 +207,27 @@ static void tell_name(struct buffer *buffer, const struct class_info *info, u32 
 	put_name(buffer, info, pid);
 }
 
-static u8 state_now(struct buffer *buffer)
+/* Whether hardirqs and softirqs are on. Lockdep's own flags stand still once it is off; then the CPU's are used. */
+static u8 flags_now(const struct buffer *buffer, unsigned long irqs)
 {
-	u8 state = buffer->is_fresh ? LR_FRESH : 0;
+	bool are_hardirqs_on = lockdep_hardirqs_enabled(), are_softirqs_on = current->softirqs_enabled;
+
+	if (buffer->is_off) {
+		are_hardirqs_on = !irqs_disabled_flags(irqs);
+		are_softirqs_on = !softirq_count();
+	}
+	return (are_hardirqs_on ? LR_HARDIRQS_ON : 0) | (are_softirqs_on ? LR_SOFTIRQS_ON : 0);
+}
+
+static u8 state_now(struct buffer *buffer, unsigned long irqs)
+{
+	u8 state = flags_now(buffer, irqs) | (buffer->is_fresh ? LR_FRESH : 0);
 
 	if (lockdep_hardirq_context())
 		state |= LR_IN_HARDIRQ;
 	if (current->softirq_context)
 		state |= LR_IN_SOFTIRQ;
-	if (lockdep_hardirqs_enabled())
-		state |= LR_HARDIRQS_ON;
-	if (current->softirqs_enabled)
-		state |= LR_SOFTIRQS_ON;
-	if (debug_locks && !__this_cpu_read(lockdep_recursion) && !current->lockdep_recursion)
+	if (!__this_cpu_read(lockdep_recursion) && !current->lockdep_recursion)
 		state |= LR_LOOKED_AT;
 	if (in_nmi())
 		state |= LR_IN_NMI;
@@ -261,7 +278,7 @@ static void tell_task(struct buffer *buffer, u8 state)
 	buffer->generation = generation;
 	memcpy(&record.instance, current->comm, 8);
 	memcpy(&record.key, current->comm + 8, 8);
-	record.flags = is_reader(buffer) ? LR_READER : 0;
+	record.flags = (is_reader(buffer) ? LR_READER : 0) | (buffer->is_off ? LR_OFF : 0);
 	put(buffer, &record);
 	put_held(buffer);
 }
@@ -300,6 +317,7 @@ static struct buffer *begin_event(unsigned long *irqs)
 	if (READ_ONCE(phase) == RUNNING && !buffer->is_busy) {
 		buffer->is_busy = true;
 		barrier();
+		buffer->is_off = !READ_ONCE(debug_locks);
 		if (!is_left_out(buffer) && has_room(buffer))
 			return buffer;
 		buffer->is_busy = false;
@@ -313,13 +331,23 @@ static struct buffer *begin_event(unsigned long *irqs)
 static void end_event(struct buffer *buffer, struct lr_record *record, unsigned long irqs)
 {
 	record->pid = current->pid;
-	record->depth = current->lockdep_depth;
+	record->depth = buffer->is_off ? LR_NO_DEPTH : current->lockdep_depth;
 	record->state |= irqs_disabled_flags(irqs) ? 0 : LR_IRQS_ON;
 	put(buffer, record);
 	buffer->is_fresh = false;
 	barrier();
 	buffer->is_busy = false;
 	raw_local_irq_restore(irqs);
+}
+
+/* The lock under which the next acquisition of this CPU is safe. */
+static void put_nest_lock(struct buffer *buffer, const struct lockdep_map *nest_lock)
+{
+	struct lr_record record = {
+		.instance = (u64)(unsigned long)nest_lock, .pid = current->pid, .type = LR_UNDER,
+	};
+
+	put(buffer, &record);
 }
 
 /* ---- Probes. */
@@ -342,10 +370,12 @@ static void probe_acquire(void *data, struct lockdep_map *map, unsigned int subc
 		.place = ip,
 		.type = LR_ACQUIRE,
 		.flags = flags_of(info.subclass, trylock, read, check, nest_lock != NULL),
-		.state = state_now(buffer),
+		.state = state_now(buffer, irqs),
 	};
 	tell_task(buffer, record.state);
 	tell_name(buffer, &info, current->pid);
+	if (nest_lock)
+		put_nest_lock(buffer, nest_lock);
 	end_event(buffer, &record, irqs);
 }
 
@@ -358,25 +388,25 @@ static void probe_release(void *data, struct lockdep_map *map, unsigned long ip)
 	if (!buffer)
 		return;
 	record = (struct lr_record){
-		.instance = (u64)(unsigned long)map, .place = ip, .type = LR_RELEASE, .state = state_now(buffer),
+		.instance = (u64)(unsigned long)map, .place = ip, .type = LR_RELEASE, .state = state_now(buffer, irqs),
 	};
 	tell_task(buffer, record.state);
 	end_event(buffer, &record, irqs);
 }
 
-/* Hardirqs are about to be turned on: lockdep marks what is held. */
+/* Hardirqs are about to be turned on: lockdep marks what is held. Once it is off, it no longer knows what is. */
 static void probe_enable(void *data, unsigned long ip, unsigned long parent_ip)
 {
 	unsigned long irqs;
 	struct buffer *buffer;
 	struct lr_record record;
 
-	if (!current->lockdep_depth || lockdep_hardirqs_enabled())
+	if (!debug_locks || !current->lockdep_depth || lockdep_hardirqs_enabled())
 		return;
 	buffer = begin_event(&irqs);
 	if (!buffer)
 		return;
-	record = (struct lr_record){.place = ip, .type = LR_ENABLE, .flags = 1, .state = state_now(buffer)};
+	record = (struct lr_record){.place = ip, .type = LR_ENABLE, .flags = 1, .state = state_now(buffer, irqs)};
 	tell_task(buffer, record.state);
 	end_event(buffer, &record, irqs);
 }
@@ -447,6 +477,68 @@ static int add_probes(void)
 	return 0;
 }
 
+/* ---- The modules that are loaded and unloaded: `load NUMBER NAME` and `unload NUMBER NAME`, with the number of the last record
+   before that, and after a `load` the module's symbols as /proc/kallsyms has them. Other loads may be under way, so there is a
+   lock, which isn't traced. */
+
+static char *text;
+static size_t text_length;
+static unsigned long text_lost; /* lines for which there was no room */
+static arch_spinlock_t text_lock = __ARCH_SPIN_LOCK_UNLOCKED;
+
+static __printf(1, 2) void add_line(const char *format, ...)
+{
+	size_t room = TEXT_ROOM - text_length, length;
+	va_list words;
+
+	va_start(words, format);
+	length = vsnprintf(text + text_length, room, format, words);
+	va_end(words);
+	if (length < room)
+		smp_store_release(&text_length, text_length + length);
+	else
+		text_lost++;
+}
+
+static void add_symbols(const struct module *module)
+{
+	const struct mod_kallsyms *symbols = rcu_dereference_sched(module->kallsyms);
+	unsigned int number;
+
+	for (number = 1; number < symbols->num_symtab; number++) {
+		const Elf_Sym *symbol = &symbols->symtab[number];
+		const char *name = symbols->strtab + symbol->st_name;
+
+		if (symbol->st_shndx != SHN_UNDEF && *name && !strchr("$.", *name)) /* those are marks of assemblers */
+			add_line("%016lx %c %s\t[%s]\n", (unsigned long)symbol->st_value, symbols->typetab[number], name, module->name);
+	}
+}
+
+static int note_module(struct notifier_block *block, unsigned long event, void *data)
+{
+	const struct module *module = data;
+
+	if (event != MODULE_STATE_COMING && event != MODULE_STATE_GOING)
+		return NOTIFY_DONE;
+	preempt_disable();
+	arch_spin_lock(&text_lock);
+	add_line("%s %lld %s\n", event == MODULE_STATE_COMING ? "load" : "unload", (long long)atomic64_read(&last_number), module->name);
+	if (event == MODULE_STATE_COMING)
+		add_symbols(module);
+	arch_spin_unlock(&text_lock);
+	preempt_enable();
+	return NOTIFY_DONE;
+}
+
+static struct notifier_block module_notes = {.notifier_call = note_module};
+
+static ssize_t read_modules(struct file *file, char __user *bytes, size_t size, loff_t *at)
+{
+	return simple_read_from_buffer(bytes, size, at, text, smp_load_acquire(&text_length));
+}
+
+static const struct file_operations modules_file = {.owner = THIS_MODULE, .open = simple_open, .read = read_modules};
+
 /* ---- The files. */
 
 static int open_cpu(struct inode *inode, struct file *file)
@@ -493,7 +585,7 @@ static ssize_t read_cpu(struct file *file, char __user *bytes, size_t size, loff
 }
 
 static const struct file_operations cpu_files = {
-	.owner = THIS_MODULE, .open = open_cpu, .release = release_cpu, .read = read_cpu, .llseek = no_llseek,
+	.owner = THIS_MODULE, .open = open_cpu, .release = release_cpu, .read = read_cpu,
 };
 
 static const char *const phase_names[] = {"idle", "running", "stopping", "stopped"};
@@ -509,6 +601,7 @@ static int show_control(struct seq_file *file, void *data)
 	for_each_possible_cpu(cpu)
 		seq_printf(file, "cpu%u slots written %lu lost %llu nested %llu\n", cpu, buffers[cpu]->head, buffers[cpu]->lost,
 			   buffers[cpu]->nested);
+	seq_printf(file, "modules lost %lu\n", text_lost);
 	return 0;
 }
 
@@ -581,12 +674,16 @@ static void free_buffers(void)
 			vfree(buffers[cpu]->slots);
 		vfree(buffers[cpu]);
 	}
+	vfree(text);
 }
 
 static int make_buffers(void)
 {
 	unsigned int cpu;
 
+	text = vzalloc(TEXT_ROOM);
+	if (!text)
+		return -ENOMEM;
 	for_each_possible_cpu(cpu) {
 		buffers[cpu] = vzalloc(sizeof(struct buffer));
 		if (!buffers[cpu])
@@ -608,6 +705,7 @@ static void make_files(void)
 		snprintf(name, sizeof(name), "cpu%u", cpu);
 		debugfs_create_file(name, 0400, folder, buffers[cpu], &cpu_files);
 	}
+	debugfs_create_file("modules", 0400, folder, NULL, &modules_file);
 	debugfs_create_file("control", 0600, folder, NULL, &control_file);
 }
 
@@ -624,6 +722,7 @@ static int __init load(void)
 		free_buffers();
 		return fault;
 	}
+	register_module_notifier(&module_notes);
 	make_files();
 	return 0;
 }
@@ -631,6 +730,7 @@ static int __init load(void)
 static void __exit unload(void)
 {
 	debugfs_remove(folder);
+	unregister_module_notifier(&module_notes);
 	WRITE_ONCE(phase, STOPPED);
 	remove_probes();
 	free_buffers();
@@ -638,3 +738,5 @@ static void __exit unload(void)
 
 module_init(load);
 module_exit(unload);
+
+#endif

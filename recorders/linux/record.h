@@ -23,8 +23,10 @@ struct lr_record {
     lr_u8 type;
     lr_u8 flags;
     lr_u8 state;
-    lr_u8 depth; /* how many locks lockdep has for this task before the event */
+    lr_u8 depth; /* how many locks lockdep has for this task before the event; LR_NO_DEPTH: it has turned itself off */
 };
+
+#define LR_NO_DEPTH 255
 
 /* What a record says. If a type isn't an acquisition, the fields have other meanings. */
 enum lr_type {
@@ -36,6 +38,7 @@ enum lr_type {
     LR_HELD = 6,   /* a lock that the task holds, outermost first: `depth` of them follow an LR_TASK, counted down */
     LR_LOST = 7,   /* `instance` records of this CPU were lost here */
     LR_CPU = 8,    /* the variables of the CPU `key` are `instance` above their symbols */
+    LR_UNDER = 9,  /* `instance` is the nest_lock of this CPU's next acquisition */
 };
 
 #define LR_NAME_SLOTS 2
@@ -48,10 +51,11 @@ enum lr_type {
 #define LR_CHECK 64     /* not set: the lock is held, but not checked */
 #define LR_NEST 128     /* taken under an outer lock that makes it safe */
 
-/* The flag of a task: it reads the recording. */
+/* The flags of a task: it reads the recording; lockdep is off, so the list says what the task held when that happened. */
 #define LR_READER 1
+#define LR_OFF 2
 
-/* The state at a record. */
+/* The state at a record. Whether hardirqs and softirqs are on is what lockdep says, and once it is off what the CPU says. */
 #define LR_IN_HARDIRQ 1
 #define LR_IN_SOFTIRQ 2
 #define LR_HARDIRQS_ON 4

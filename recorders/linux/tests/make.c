@@ -2,14 +2,15 @@
 
      CPU cpu BASE                             where the CPU's variables lie
      CPU name KEY NAME                        a class's name, to the end of the line
-     CPU task PID STRUCT COMM STATE DEPTH     this task from here on; `reader` may stand behind
+     CPU task PID STRUCT COMM STATE DEPTH     this task from here on; `reader` or `off` may stand behind
      CPU held INSTANCE KEY HOW LEFT           a lock of the task's list
-     CPU acq INSTANCE KEY HOW STATE DEPTH
+     CPU acq INSTANCE KEY HOW STATE DEPTH     behind these two the caller may stand
      CPU rel INSTANCE STATE DEPTH
+     CPU under INSTANCE                       the nest_lock of the next acquisition
      CPU on STATE DEPTH                       hardirqs are about to be turned on
      CPU lost COUNT
 
-   Numbers are hexadecimal, but for CPU, PID, DEPTH, LEFT and COUNT. HOW is a mode of the trace format, with a subclass behind it
+   Numbers are hexadecimal, but for CPU, PID, DEPTH, LEFT and COUNT. DEPTH is 255 once lockdep is off. HOW is a mode of the trace format, with a subclass behind it
    (`w1`), `!` if it isn't checked, and `^` if it is under a nest_lock. STATE is letters: h and s in a hardirq and softirq, H
    and S these are on, L lockdep looks, N in an NMI, F a new interrupt, and - for none. Lines with # are left out. */
 #include "../record.h"
@@ -23,6 +24,7 @@
 static FILE *files[CPUS];
 static lr_u32 pids[CPUS];
 static lr_u64 number;
+static unsigned long slots[CPUS];
 
 static lr_u8 state_of(const char *letters) {
     static const char all[] = "hsHSLN.F";
@@ -55,6 +57,7 @@ static void write_record(int cpu, struct lr_record record) {
     record.number = ++number;
     record.pid = pids[cpu];
     fwrite(&record, sizeof record, 1, files[cpu]);
+    slots[cpu]++;
 }
 
 static void write_name(int cpu, lr_u64 key, const char *name) {
@@ -62,10 +65,21 @@ static void write_name(int cpu, lr_u64 key, const char *name) {
     strncpy(text, name, sizeof text - 1);
     write_record(cpu, (struct lr_record){.key = key, .type = LR_NAME});
     fwrite(text, sizeof text, 1, files[cpu]);
+    slots[cpu] += LR_NAME_SLOTS;
 }
 
-static void write_task(int cpu, unsigned pid, lr_u64 address, const char *comm, const char *state, unsigned depth, int is_reader) {
-    struct lr_record record = {.place = address, .type = LR_TASK, .flags = is_reader ? LR_READER : 0};
+/* What the module says at the end. */
+static int write_control(const char *folder) {
+    char path[4096];
+    snprintf(path, sizeof path, "%s/control", folder);
+    FILE *file = fopen(path, "w");
+    for (int cpu = 0; file && cpu < CPUS; cpu++)
+        fprintf(file, "cpu%d slots written %lu lost 0 nested 0\n", cpu, slots[cpu]);
+    return file && !fclose(file);
+}
+
+static void write_task(int cpu, unsigned pid, lr_u64 address, const char *comm, const char *state, unsigned depth, char flag) {
+    struct lr_record record = {.place = address, .type = LR_TASK, .flags = flag == 'r' ? LR_READER : flag == 'o' ? LR_OFF : 0};
     char text[16] = {0};
     memcpy(text, comm, strlen(comm) < 15 ? strlen(comm) : 15);
     memcpy(&record.instance, text, 8);
@@ -80,7 +94,7 @@ static void write_task(int cpu, unsigned pid, lr_u64 address, const char *comm, 
 static int write_line(const char *line) {
     int cpu, from = 0;
     unsigned pid, depth;
-    unsigned long long first, second;
+    unsigned long long first, second, place = 0;
     char how[16], state[16], comm[16], last[16] = "";
     if (sscanf(line, "%d", &cpu) != 1 || cpu < 0 || cpu >= CPUS)
         return 0;
@@ -90,15 +104,16 @@ static int write_line(const char *line) {
     else if (sscanf(line, "name %llx %n", &first, &from) == 1 && from)
         write_name(cpu, first, line + from);
     else if (sscanf(line, "task %u %llx %15s %15s %u %15s", &pid, &first, comm, state, &depth, last) >= 5)
-        write_task(cpu, pid, first, comm, state, depth, *last == 'r');
+        write_task(cpu, pid, first, comm, state, depth, *last);
     else if (sscanf(line, "held %llx %llx %15s %u", &first, &second, how, &depth) == 4)
         write_record(cpu, (struct lr_record){
                               .instance = first, .key = second, .type = LR_HELD, .flags = flags_of(how), .depth = (lr_u8)depth});
-    else if (sscanf(line, "acq %llx %llx %15s %15s %u", &first, &second, how, state, &depth) == 5)
-        write_record(cpu, (struct lr_record){0, first, second, 0, 0, LR_ACQUIRE, flags_of(how), state_of(state), (lr_u8)depth});
-    else if (sscanf(line, "rel %llx %15s %u", &first, state, &depth) == 3)
-        write_record(cpu,
-                     (struct lr_record){.instance = first, .type = LR_RELEASE, .state = state_of(state), .depth = (lr_u8)depth});
+    else if (sscanf(line, "acq %llx %llx %15s %15s %u %llx", &first, &second, how, state, &depth, &place) >= 5)
+        write_record(cpu, (struct lr_record){0, first, second, place, 0, LR_ACQUIRE, flags_of(how), state_of(state), (lr_u8)depth});
+    else if (sscanf(line, "rel %llx %15s %u %llx", &first, state, &depth, &place) >= 3)
+        write_record(cpu, (struct lr_record){0, first, 0, place, 0, LR_RELEASE, 0, state_of(state), (lr_u8)depth});
+    else if (sscanf(line, "under %llx", &first) == 1)
+        write_record(cpu, (struct lr_record){.instance = first, .type = LR_UNDER});
     else if (sscanf(line, "on %15s %u", state, &depth) == 2)
         write_record(cpu, (struct lr_record){.type = LR_ENABLE, .flags = 1, .state = state_of(state), .depth = (lr_u8)depth});
     else if (sscanf(line, "lost %llu", &first) == 1)
@@ -125,5 +140,5 @@ int main(int count, char **words) {
             return 2;
         }
     }
-    return 0;
+    return write_control(words[1]) ? 0 : 2;
 }
