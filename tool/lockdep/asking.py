@@ -5,6 +5,7 @@ import os
 
 from .checker import REFUSED, Answer, ask
 from .folder import OBJECTS, PROVOKED, SIGNALS, WEAK
+from .kernels import is_of_kernel, traces_of
 from .words import text_of
 
 TYPE_CHECKING = False
@@ -19,6 +20,8 @@ REFUSED_OBJECTS = "the traces of single locks were refused"
 
 def traces_in(folder: str) -> list[str]:
     """The traces of a folder, in their order."""
+    if is_of_kernel(folder):
+        return traces_of(folder)
     try:
         names = [name for name in os.listdir(folder) if name.startswith("task-") and name.endswith(".csv")]
     except OSError:

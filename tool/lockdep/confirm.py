@@ -12,6 +12,7 @@ from .checker import HOME
 from .files import STANDARD_OUTPUT, is_file, need_output, print_file
 from .findings import Finding
 from .folder import PAGE, SIGNALS, is_made
+from .kernels import is_of_kernel, why_incomplete
 from .sources import sources_of
 from .terminal import Writer, text_stream
 from .text import Text
@@ -92,6 +93,9 @@ def check_forms(folder: str, forms: dict[str, str]) -> None:
 
 def say_summary(folder: str) -> None:
     """What was recorded. If that is nothing of the program's own, there is nothing to check."""
+    if is_of_kernel(folder):
+        sys.stderr.write("".join("confirm: %s\n" % why for why in why_incomplete(folder)))
+        return
     if subprocess.run([RECORD, "--summary", folder], stdin=subprocess.DEVNULL).returncode > 1:
         raise Refusal(None)
     if not traces_in(folder):
@@ -119,7 +123,7 @@ def depths_in(folder: str, asked: Asked, findings: list[Finding]) -> dict[int, i
 
 def write_findings(folder: str, asked: Asked, findings: list[Finding], breaches: list[Breach]) -> None:
     recorded = Recorded(asked.traces, text_in(os.path.join(folder, "SUMMARY")))
-    recorded.depths = depths_in(folder, asked, findings) if findings else {}
+    recorded.depths = depths_in(folder, asked, findings) if findings and not is_of_kernel(folder) else {}
     stream = text_stream(sys.stdout.fileno())
     writer = Writer(stream)
     writer.line("findings %d" % (sum(not finding.is_note for finding in findings) + len(breaches)))
@@ -173,7 +177,7 @@ def main(words: list[str]) -> int:
         return 2
     except OSError:
         raise Refusal("the text can't be written")
-    if asked.left_out:
+    if asked.left_out or (not findings and why_incomplete(folder)):
         return 2
     counted = [finding for finding in findings if not finding.is_note]
     return 1 if breaches or any(finding.is_confirmed or not wanted.is_strict for finding in counted) else 0

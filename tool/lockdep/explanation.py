@@ -6,6 +6,7 @@ from dataclasses import dataclass
 from typing import Union
 
 from .findings import Event, Finding, Order, Use
+from .kernels import is_of_kernel
 from .sources import Sources
 from .steps import task_words
 from .threads import name_of
@@ -79,6 +80,8 @@ def occurrence_lines(finding: Finding, sources: Sources) -> list[Line]:
 def thread_of(event: Event | None) -> str:
     """The thread of a record, which is called as its trace and by its name, behind what a task does; empty for a trace of another name."""
     name, suffix = os.path.splitext(os.path.basename(event.file)) if event else ("", "")
+    if event and suffix == ".csv" and is_of_kernel(os.path.dirname(event.file)):
+        return " (%s)" % name  # it has the task's own name
     if event is None or not name.startswith("task-") or suffix != ".csv":
         return ""
     own = name_of(event.file)

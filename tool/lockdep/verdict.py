@@ -6,6 +6,7 @@ import os
 import re
 from typing import Iterable
 
+from . import kernels
 from .apart import apart_words
 from .files import contents
 from .findings import Finding, Gate, Kind
@@ -52,6 +53,7 @@ class Recorded:
         self.locks: dict[str, int] | None = None
         self.sizes: dict[int, list[str]] | None = None
         self.depths: dict[int, int] = {}  # for a finding's number, with how many callers it is gone
+        self.is_of_kernel: bool | None = None  # if it is known: whether all traces are of a kernel
 
     def alike(self, trace: str) -> set[str]:
         """The traces that say the same as one, with that one."""
@@ -77,6 +79,11 @@ class Recorded:
         pairs = {(order.start, order.end) for order in inner.orders}
         return len(numbers) == 1 and None not in numbers and not any(
             number_of(trace) not in numbers and has_order(trace, pairs) for trace in self.traces)
+
+    def is_kernels(self) -> bool:
+        if self.is_of_kernel is None:
+            self.is_of_kernel = bool(self.traces) and all(map(kernels.is_of_kernel, {os.path.dirname(trace) for trace in self.traces}))
+        return self.is_of_kernel
 
     def may_be_more(self, traces: Iterable[str]) -> bool:
         """Whether there may be more threads whose traces weren't written: they say the same as several that were."""
@@ -251,4 +258,5 @@ def said_of(finding: Finding, recorded: Recorded) -> list[str]:
     if finding.handler:
         from .signal_text import remarks_of_signal
         of_signal = remarks_of_signal(finding, finding.handler)
-    return of_signal + [words for words in (apart_words(finding, recorded), verdict_of(finding, recorded)) if words]
+    of_kernel = [kernels.words_of(finding)] if recorded.is_kernels() else []
+    return of_signal + of_kernel + [words for words in (apart_words(finding, recorded), verdict_of(finding, recorded)) if words]

@@ -1,0 +1,49 @@
+"""A recording of a Linux kernel: how it is known, its traces, and the words that the kernel's own lockdep has for a finding."""
+from __future__ import annotations
+
+import os
+
+from .findings import Finding, Use
+from .folder import TASKS
+from .summary import read, recorder_of
+
+RECORDER = "linux"
+INCOMPLETE = "incomplete"  # begins a line of SUMMARY: why a clean report would say nothing
+SAYS = "the kernel's lockdep says: "
+
+
+def is_of_kernel(folder: str) -> bool:
+    return recorder_of(folder) == RECORDER
+
+
+def traces_of(folder: str) -> list[str]:
+    """The traces, which are called by their tasks' names and pids, and are listed. Tasks may share one."""
+    try:
+        with open(os.path.join(folder, TASKS), encoding="utf-8", errors="surrogateescape") as file:
+            names = [line.partition(" ")[0] for line in file.read().split("\n")]
+    except OSError:
+        return []
+    return [os.path.join(folder, name) for name in dict.fromkeys(names) if name]
+
+
+def why_incomplete(folder: str) -> list[str]:
+    summary = read(folder)
+    return summary.after(INCOMPLETE) if summary else []
+
+
+def letter_of(use: Use) -> str:
+    """How a lock is used, as the kernel abbreviates it: by a writer or a reader."""
+    mode = use.takes or use.held or "w"
+    return "R" if "r" in mode else "W"
+
+
+def words_of(finding: Finding) -> str:
+    """What the kernel's lockdep calls a finding, so that it can be searched for."""
+    irq = finding.irq.upper()
+    if finding.type == "double":
+        return SAYS + "inconsistent lock state: inconsistent {%s-ON-%s} -> {IN-%s-%s} usage" % (
+            irq, letter_of(finding.enabled), irq, letter_of(finding.used))
+    if finding.type == "inversion":
+        return SAYS + "%s-safe -> %s-unsafe lock order detected, or possible irq lock inversion dependency detected" % (irq, irq)
+    is_recursion = len(finding.orders) == 1
+    return SAYS + ("possible recursive locking detected" if is_recursion else "possible circular locking dependency detected")
