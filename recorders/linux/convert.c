@@ -8,6 +8,7 @@
 #include <errno.h>
 #include <fcntl.h>
 #include <regex.h>
+#include <stdarg.h>
 #include <stdbool.h>
 #include <stdio.h>
 #include <stdlib.h>
@@ -56,6 +57,21 @@ struct counts {
 };
 
 static struct counts counts;
+
+/* Why a clean report of these traces wouldn't say that all was looked at. */
+#define MAX_REASONS 16
+
+static char reasons[MAX_REASONS][240];
+static int reason_count;
+
+__attribute__((format(printf, 1, 2))) static void incomplete(const char *format, ...) {
+    va_list words;
+    if (reason_count == MAX_REASONS)
+        return;
+    va_start(words, format);
+    vsnprintf(reasons[reason_count++], sizeof *reasons, format, words);
+    va_end(words);
+}
 
 _Noreturn static void refuse(const char *what, const char *why) {
     fprintf(stderr, "convert: %s: %s\n", what, why);
@@ -206,7 +222,6 @@ static bool next_item(struct item *item) {
 
 /* ---- Whether the recording is whole: what the module wrote, as `control` says, was read. */
 
-static char why_incomplete[160]; /* empty: nothing speaks against it */
 static bool is_of_text;          /* the recording was made of text, in which more is missing */
 static bool is_lockdep_off;      /* lockdep had turned itself off at the end */
 
@@ -217,8 +232,7 @@ static bool compare_cpu(const char *line) {
     if (sscanf(line, "cpu%u slots written %lu", &number, &written) != 2 || number >= MAX_CPUS)
         return false;
     if (cpus[number].slot_count != written)
-        snprintf(why_incomplete, sizeof why_incomplete, "the module wrote %lu slots on CPU %u, and %zu are there: was the disk full?", written,
-                 number, cpus[number].slot_count);
+        incomplete("the module wrote %lu slots on CPU %u, and %zu are there: was the disk full?", written, number, cpus[number].slot_count);
     return true;
 }
 
@@ -231,10 +245,10 @@ static void compare_control(void) {
         is_of_text = is_of_text || !strcmp(line, "made of text");
         is_lockdep_off = is_lockdep_off || !strcmp(line, "lockdep off");
         if (!strncmp(line, "modules lost ", 13) && strcmp(line + 13, "0"))
-            snprintf(why_incomplete, sizeof why_incomplete, "there was no room for the symbols of all modules: classes of these may be joined");
+            incomplete("there was no room for the symbols of all modules: classes of these may be joined");
     }
     if (!is_told)
-        snprintf(why_incomplete, sizeof why_incomplete, "%s/control isn't there or says nothing, so it isn't known whether all was read", options.raw);
+        incomplete("%.150s/control isn't there or says nothing, so it isn't known whether all was read", options.raw);
     free(text);
 }
 
@@ -350,10 +364,8 @@ static void load_symbols(void) {
         read_symbols(text);
     if (symbol_count && !image_start)
         refuse(name, "has no _text, or root didn't read it");
-    if (!symbol_count && !is_of_text) {
-        fputs("convert: there are no symbols: classes of one name are joined\n", stderr);
-        snprintf(why_incomplete, sizeof why_incomplete, "%s: %s", name, text ? "empty" : "missing");
-    }
+    if (!symbol_count && !is_of_text)
+        incomplete("there are no symbols: classes of one name are joined");
     if (modules)
         read_symbols(modules);
     qsort(symbols, symbol_count, sizeof *symbols, by_address);
@@ -1711,11 +1723,11 @@ static void sort_tasks(void) {
 /* Calls a trace COMM-PID.csv, and the next ones of that name COMM-PID-2.csv and so on. They stand next to one another. */
 static void name_trace(size_t number, size_t *same) {
     struct task *task = tasks[number];
-    const char *allowed = "abcdefghijklmnopqrstuvwxyzABCDEFGHIJKLMNOPQRSTUVWXYZ0123456789_+.";
+    const char *allowed = "abcdefghijklmnopqrstuvwxyzABCDEFGHIJKLMNOPQRSTUVWXYZ0123456789_+.-";
     char comm[sizeof task->comm];
     snprintf(comm, sizeof comm, "%s", *task->comm ? task->comm : "unnamed");
     for (char *byte = comm; *byte; byte++)
-        if (!strchr(allowed, *byte) || (byte == comm && *byte == '.'))
+        if (!strchr(allowed, *byte) || (byte == comm && strchr(".-", *byte)))
             *byte = '_';
     *same = number && tasks[number - 1]->pid == task->pid ? *same + 1 : 1;
     int length = snprintf(task->trace, sizeof task->trace, "%s-%u", comm, task->pid);
@@ -1831,57 +1843,59 @@ static void tell_summary(FILE *file) {
     tell_joined(file);
 }
 
-/* Says on standard error what a recording lacks. The result is whether it is something. */
-static bool tell_incomplete(void) {
-    bool is_lost = counts.lost || counts.gaps, is_off = counts.off && !is_of_text;
-    if (is_lost)
-        fprintf(stderr, "convert: %lu records were lost in %lu gaps: the traces may have false orders\n", counts.lost, counts.gaps);
+/* What a recording lacks. */
+static void note_incomplete(void) {
+    bool is_off = is_lockdep_off || (counts.off && !is_of_text);
+    if (counts.lost || counts.gaps)
+        incomplete("%lu records were lost in %lu gaps: the traces may have false orders", counts.lost, counts.gaps);
     if (counts.cut_files)
-        fputs("convert: a file of the recording ends within a record\n", stderr);
-    if (*why_incomplete)
-        fprintf(stderr, "convert: %s\n", why_incomplete);
-    if (is_off || is_lockdep_off)
-        fprintf(stderr, "convert: lockdep turned itself off (dmesg says why): the %lu records since then couldn't be compared with its account\n",
-                counts.off);
+        incomplete("a file of the recording ends within a record");
+    if (is_off)
+        incomplete("lockdep turned itself off (dmesg says why): the %lu records since then couldn't be compared with its account", counts.off);
     if (counts.after_lockdep)
-        fprintf(stderr, "convert: lockdep looked at none of the last %lu events: has it turned itself off?\n", counts.after_lockdep);
+        incomplete("lockdep looked at none of the last %lu events: has it turned itself off?", counts.after_lockdep);
     if (counts.untold)
-        fprintf(stderr, "convert: of %lu records it isn't known which task they are of\n", counts.untold);
-    return is_lost || counts.cut_files || *why_incomplete || is_off || is_lockdep_off || counts.after_lockdep || counts.untold;
+        incomplete("of %lu records it isn't known which task they are of", counts.untold);
 }
 
-/* Says on standard error what of the recording isn't in the traces, or may be wrong there. The result is whether it is something. */
-static bool tell_left_out(void) {
+/* What of the recording isn't in the traces, or may be wrong there. */
+static void note_left_out(void) {
     size_t keys = keys_wanted - keys_chosen;
     if (counts.mismatches)
-        fprintf(stderr, "convert: %lu times the locks held weren't as many as lockdep's: the task was left out until they were\n",
-                counts.mismatches);
+        incomplete("%lu times the locks held weren't as many as lockdep's: the task was left out until they were", counts.mismatches);
     if (keys)
-        fprintf(stderr, "convert: %zu keys were left out, the least used: nothing is known of them; `lockdep check --many` takes %d\n", keys,
-                DEFAULT_KEYS);
+        incomplete("%zu keys were left out, the least used: nothing is known of them; `lockdep check --many` takes %d", keys, DEFAULT_KEYS);
     if (counts.beyond_limit)
-        fprintf(stderr, "convert: traces end at %d events\n", MAX_EVENTS);
+        incomplete("traces end at %d events", MAX_EVENTS);
     if (counts.traces > options.most_traces)
-        fprintf(stderr, "convert: there are more than %lu traces: most of the tasks end with a lock held\n", options.most_traces);
-    return counts.mismatches || keys || counts.beyond_limit || counts.traces > options.most_traces;
+        incomplete("there are more than %lu traces, since tasks end with a lock held: give check a part of them", options.most_traces);
+    if (is_of_text)
+        incomplete("text doesn't tell subclasses, recursive readers, nest_lock or two classes of one name: there may be false cycles");
 }
 
-/* Says what no recording of text has. */
-static void tell_text(void) {
-    if (is_of_text)
-        fputs("convert: text doesn't tell subclasses, recursive readers, nest_lock or two classes of one name: there may be false cycles\n",
-              stderr);
+/* The reasons in SUMMARY, where `lockdep confirm` reads them. */
+static void tell_reasons(FILE *file) {
+    for (int number = 0; number < reason_count; number++)
+        fprintf(file, "incomplete %s\n", reasons[number]);
 }
 
 /* Says on standard error what the traces lack or get wrong. Returns the status. */
 static int tell_faults(void) {
-    tell_text();
-    bool is_incomplete = tell_incomplete(), is_less = tell_left_out();
+    for (int number = 0; number < reason_count; number++)
+        fprintf(stderr, "convert: %s\n", reasons[number]);
     if (!counts.records)
         fputs("convert: nothing was recorded\n", stderr);
     else if (!counts.traces)
         fputs("convert: no task took a lock that is asked for: there are no traces\n", stderr);
-    return !counts.traces ? 2 : is_incomplete || is_less;
+    return !counts.traces ? 2 : reason_count > 0;
+}
+
+/* What tells the driver that this is a kernel's recording. */
+static void write_json(void) {
+    FILE *file = open_file("summary.json");
+    fprintf(file, "{\"recording\":1,\"recorder\":\"linux\",\"counts\":[\n{\"code\":\"records\",\"count\":%lu},\n{\"code\":\"events\",\"count\":%lu}\n],"
+            "\"unseen\":[]}\n", counts.records, counts.events);
+    close_file(file);
 }
 
 /* ---- The command line. */
@@ -1988,9 +2002,13 @@ int main(int count, char **words) {
     clear_folder();
     write_traces();
     write_classes();
+    write_json();
     FILE *summary = open_file("SUMMARY");
+    note_incomplete();
+    note_left_out();
     tell_summary(summary);
     tell_takers(summary);
+    tell_reasons(summary);
     close_file(summary);
     tell_summary(stdout);
     return tell_faults();
