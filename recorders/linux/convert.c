@@ -1838,7 +1838,7 @@ static void tell_summary(FILE *file) {
     tell(file, counts.nested, "acquisitions under a nest_lock, by which they are safe", false);
     tell(file, counts.off, is_of_text ? "records without lockdep's account" : "records after lockdep turned itself off", false);
     tell(file, counts.alike, "left out: tasks that do what two others do, by which nothing is lost", false);
-    tell(file, counts.shared, "tasks that share a trace, since a run takes 4096", false);
+    tell(file, counts.shared, "tasks that share a trace", false);
     tell(file, counts.untold, "left out: records of a CPU before its task was told", false);
     tell_joined(file);
 }
@@ -1901,7 +1901,7 @@ static void write_json(void) {
 /* ---- The command line. */
 
 static const char usage[] = "usage: convert [-o FOLDER] [--version-1] [--repeats] [--full-names] [--only RE] [--only-module NAME] [--keys N] "
-                            "[--symbols FILE] [--vmlinux FILE] [--ko FILE]... RAW";
+                            "[--most-traces N] [--symbols FILE] [--vmlinux FILE] [--ko FILE]... RAW";
 
 static bool takes_value(const char *word) {
     static const char *const all[] = {"-o", "--only", "--only-module", "--symbols", "--keys", "--most-traces", "--vmlinux", "--ko"};
