@@ -111,14 +111,15 @@ static struct class_info info_of_map(const struct lockdep_map *map, unsigned int
 	return info;
 }
 
-static struct class_info info_of_held(const struct held_lock *held)
+/* Once lockdep is off, a lock of its list may be gone, and isn't looked at: then the class isn't known if it is gone too. */
+static struct class_info info_of_held(const struct held_lock *held, bool is_off)
 {
 	const struct lock_class *classes = (const struct lock_class *)lock_classes_at;
 	struct class_info info = {0};
 
 	if (classes)
 		info = info_of_class(&classes[held->class_idx]);
-	return info.key && info.name ? info : info_of_map(held->instance, 0);
+	return is_off || (info.key && info.name) ? info : info_of_map(held->instance, 0);
 }
 
 /* ---- Who reads. */
@@ -239,14 +240,14 @@ static u8 flags_of(int subclass, int trylock, int read, int check, bool nest)
 	return subclass | (trylock ? LR_TRY : 0) | read << LR_READ_SHIFT | (check ? LR_CHECK : 0) | (nest ? LR_NEST : 0);
 }
 
-/* What the task holds, outermost first. */
+/* What the task holds, outermost first. A list of which a class isn't known is shorter than the task's record says. */
 static void put_held(struct buffer *buffer)
 {
 	int depth = current->lockdep_depth, number;
 
 	for (number = 0; number < depth; number++) {
 		const struct held_lock *held = &current->held_locks[number];
-		struct class_info info = info_of_held(held);
+		struct class_info info = info_of_held(held, buffer->is_off);
 		struct lr_record record = {
 			.instance = (u64)(unsigned long)held->instance,
 			.key = info.key,
@@ -257,6 +258,8 @@ static void put_held(struct buffer *buffer)
 			.depth = depth - number,
 		};
 
+		if (!info.key || !info.name)
+			continue;
 		tell_name(buffer, &info, current->pid);
 		put(buffer, &record);
 	}
