@@ -927,6 +927,7 @@ static void give(struct task *task, int place, const struct lr_record *record) {
             newest = other;
     task->book[place].instance = task->book[newest].instance;
     task->book[place].references = task->book[newest].references;
+    task->book[place].is_nested = task->book[newest].is_nested;
     memmove(&task->book[newest], &task->book[newest + 1], (size_t)(task->held - newest - 1) * sizeof(struct held));
     task->held--;
     if (key != LEFT_OUT)

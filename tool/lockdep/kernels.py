@@ -31,6 +31,12 @@ def why_incomplete(folder: str) -> list[str]:
     return summary.after(INCOMPLETE) if summary else []
 
 
+def left_out(traces: list[str]) -> str:
+    """Why the recordings of these traces are incomplete, if they are of kernels; each reason once."""
+    folders = dict.fromkeys(os.path.dirname(trace) for trace in traces)
+    return "; ".join(dict.fromkeys(why for folder in folders if is_of_kernel(folder) for why in why_incomplete(folder)))
+
+
 def letter_of(use: Use) -> str:
     """How a lock is used, as the kernel abbreviates it: by a writer or a reader."""
     mode = use.takes or use.held or "w"

@@ -13,6 +13,7 @@ from .findings import Finding, findings_of
 from .folder import SIGNALS
 from .forms import Found, text_of_form
 from .happened import take_happened
+from .kernels import left_out
 from .known import sort
 from .sources import sources_of
 from .suppressions import WHAT, entries_of
@@ -144,7 +145,7 @@ def found_in(given: dict[str, str], files: list[str]) -> Found:
     sources = sources_of(findings)
     result = sort(findings, [], entries, sources)
     waiting = [line.strip() for line in given.get("waiting", "").split("\n") if line.strip()]
-    found = Found(result.new, result.known, sources, Recorded(files), files, given.get("left_out", ""), waiting, raw=answer.output)
+    found = Found(result.new, result.known, sources, Recorded(files), files, given.get("left_out") or left_out(files), waiting, raw=answer.output)
     if "confirmed" in given:
         take_confirmed(found, blocks)
     return found
