@@ -918,8 +918,8 @@ static void take(struct task *task, struct held held) {
     add_event(task, (struct event){ACQ, (uint8_t)held.mode, held.key, held.place, held.number}, is_new);
 }
 
-/* Releases the lock at a place of the book, by a record if there is one. The trace releases the newest of its key in the frame: if that is another one,
-   it stays in the book at the older one's place, as it does in the trace. */
+/* Releases the lock at a place of the book, by a record if there is one. The trace releases the newest of its key in the frame: if that
+   is another one, it stays in the book at the older one's place, as it does in the trace. */
 static void give(struct task *task, int place, const struct lr_record *record) {
     int key = task->book[place].key, newest = place;
     for (int other = place + 1; other < task->held; other++)
@@ -1894,8 +1894,10 @@ static int tell_faults(void) {
 /* What tells the driver that this is a kernel's recording. */
 static void write_json(void) {
     FILE *file = open_file("summary.json");
-    fprintf(file, "{\"recording\":1,\"recorder\":\"linux\",\"counts\":[\n{\"code\":\"records\",\"count\":%lu},\n{\"code\":\"events\",\"count\":%lu}\n],"
-            "\"unseen\":[]}\n", counts.records, counts.events);
+    fprintf(file,
+            "{\"recording\":1,\"recorder\":\"linux\",\"counts\":[\n"
+            "{\"code\":\"records\",\"count\":%lu},\n{\"code\":\"events\",\"count\":%lu}\n],\"unseen\":[]}\n",
+            counts.records, counts.events);
     close_file(file);
 }
 

@@ -10,9 +10,10 @@
      CPU on STATE DEPTH                       hardirqs are about to be turned on
      CPU lost COUNT
 
-   Numbers are hexadecimal, but for CPU, PID, DEPTH, LEFT and COUNT. DEPTH is 255 once lockdep is off. HOW is a mode of the trace format, with a subclass behind it
-   (`w1`), `!` if it isn't checked, and `^` if it is under a nest_lock. STATE is letters: h and s in a hardirq and softirq, H
-   and S these are on, L lockdep looks, N in an NMI, F a new interrupt, and - for none. Lines with # are left out. */
+   Numbers are hexadecimal, but for CPU, PID, DEPTH, LEFT and COUNT. DEPTH is 255 once lockdep is off. HOW is a mode of the
+   trace format, with a subclass behind it (`w1`), `!` if it isn't checked, and `^` if it is under a nest_lock. STATE is
+   letters: h and s in a hardirq and softirq, H and S these are on, L lockdep looks, N in an NMI, F a new interrupt, and - for
+   none. Lines with # are left out. */
 #include "../record.h"
 
 #include <stdio.h>
