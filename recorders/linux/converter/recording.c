@@ -1,0 +1,141 @@
+/* Files: the records of each CPU, and all of them in the order of their numbers. */
+#define _GNU_SOURCE
+#include "converter.h"
+
+#include <fcntl.h>
+#include <sys/mman.h>
+#include <sys/stat.h>
+#include <unistd.h>
+
+struct cpu cpus[MAX_CPUS];
+int cpu_count;
+int open_gaps;
+
+/* A whole file, followed by a zero byte. */
+char *read_file(const char *path, size_t *size) {
+    FILE *file = fopen(path, "rb");
+    if (!file)
+        return NULL;
+    char *bytes = NULL;
+    size_t room = 0;
+    ssize_t length = getdelim(&bytes, &room, 0, file);
+    *size = length < 0 ? 0 : (size_t)length;
+    if (ferror(file))
+        refuse(path, "can't be read");
+    fclose(file);
+    return length < 0 ? checked(calloc(1, 1)) : bytes;
+}
+
+/* A file of the recording, as text. */
+char *read_raw(const char *name, size_t *size) {
+    char path[4096];
+    snprintf(path, sizeof path, "%s/%s", options.raw, name);
+    return read_file(path, size);
+}
+
+static size_t slots_of(const struct lr_record *record) { return record->type == LR_NAME ? 1 + LR_NAME_SLOTS : 1; }
+
+/* Makes a CPU's file readable as an array, without reading it: it may be larger than the memory. */
+static void load_cpu(int number) {
+    char path[4096];
+    struct stat found;
+    struct cpu *cpu = &cpus[number];
+    snprintf(path, sizeof path, "%s/cpu%d.bin", options.raw, number);
+    int file = open(path, O_RDONLY);
+    if (file < 0)
+        return;
+    if (fstat(file, &found) || !S_ISREG(found.st_mode))
+        refuse(path, "can't be read");
+    cpu->is_there = true;
+    cpu->slot_count = (size_t)found.st_size / sizeof(struct lr_record);
+    counts.cut_files += (size_t)found.st_size % sizeof(struct lr_record) != 0;
+    if (cpu->slot_count)
+        cpu->slots = mmap(NULL, (size_t)found.st_size, PROT_READ, MAP_PRIVATE, file, 0);
+    if (cpu->slots == MAP_FAILED)
+        refuse(path, "can't be read");
+    close(file);
+    cpu_count = number + 1;
+}
+
+/* A file may end within the records of a name. */
+static void drop_cut_end(struct cpu *cpu) {
+    size_t place = 0;
+    while (place < cpu->slot_count && place + slots_of(&cpu->slots[place]) <= cpu->slot_count)
+        place += slots_of(&cpu->slots[place]);
+    counts.cut_files += place != cpu->slot_count;
+    cpu->slot_count = place;
+}
+
+void load_cpus(void) {
+    bool is_found = false;
+    for (int number = 0; number < MAX_CPUS; number++) {
+        load_cpu(number);
+        drop_cut_end(&cpus[number]);
+        is_found = is_found || cpus[number].is_there;
+    }
+    if (!is_found)
+        refuse(options.raw, "there is no cpuN.bin");
+}
+
+/* The CPU whose next record has the smallest number, or -1. */
+static int first_cpu(void) {
+    int first = -1;
+    for (int number = 0; number < cpu_count; number++) {
+        struct cpu *cpu = &cpus[number];
+        if (cpu->next >= cpu->slot_count)
+            continue;
+        if (first < 0 || cpu->slots[cpu->next].number < cpus[first].slots[cpus[first].next].number)
+            first = number;
+    }
+    return first;
+}
+
+void begin_items(void) {
+    for (int number = 0; number < cpu_count; number++)
+        cpus[number].next = 0;
+}
+
+/* The next record of all, in the order of their numbers. False: there is none. */
+bool next_item(struct item *item) {
+    int number = first_cpu();
+    if (number < 0)
+        return false;
+    struct cpu *cpu = &cpus[number];
+    const struct lr_record *record = &cpu->slots[cpu->next];
+    cpu->next += slots_of(record);
+    bool is_before_gap = cpu->next < cpu->slot_count && cpu->slots[cpu->next].type == LR_LOST;
+    *item = (struct item){record, number, is_before_gap};
+    return true;
+}
+
+/* ---- Whether the recording is whole: what the module wrote, as `control` says, was read. */
+
+bool is_of_text;
+bool is_lockdep_off;
+
+/* Compares one line of `control` with the file of its CPU. The result is whether it is such a line. */
+static bool compare_cpu(const char *line) {
+    unsigned number;
+    unsigned long written;
+    if (sscanf(line, "cpu%u slots written %lu", &number, &written) != 2 || number >= MAX_CPUS)
+        return false;
+    if (cpus[number].slot_count != written)
+        incomplete("the module wrote %lu slots on CPU %u, and %zu are there: was the disk full?", written, number, cpus[number].slot_count);
+    return true;
+}
+
+void compare_control(void) {
+    size_t size;
+    char *text = read_raw("control", &size), *rest = text;
+    bool is_told = false;
+    for (char *line; text && (line = strsep(&rest, "\n"));) {
+        is_told = compare_cpu(line) || is_told;
+        is_of_text = is_of_text || !strcmp(line, "made of text");
+        is_lockdep_off = is_lockdep_off || !strcmp(line, "lockdep off");
+        if (!strncmp(line, "modules lost ", 13) && strcmp(line + 13, "0"))
+            incomplete("there was no room for the symbols of all modules: classes of these may be joined");
+    }
+    if (!is_told)
+        incomplete("%.150s/control isn't there or says nothing, so it isn't known whether all was read", options.raw);
+    free(text);
+}

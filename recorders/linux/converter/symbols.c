@@ -1,0 +1,140 @@
+/* Symbols: those of the kernel's image and of modules, by address. A module's are there from one record to another. */
+#define _GNU_SOURCE
+#include "converter.h"
+
+struct symbol *symbols;
+static size_t symbol_count;
+struct load *loads;
+static size_t load_count;
+uint64_t image_start, image_end, percpu_start, percpu_end, no_validate;
+
+static int by_address(const void *a, const void *b) {
+    const struct symbol *first = a, *second = b;
+    if (first->address != second->address)
+        return first->address < second->address ? -1 : 1;
+    return first->line < second->line ? -1 : first->line > second->line;
+}
+
+static void note_bound(const char *name, uint64_t address) {
+    if (!strcmp(name, "_text"))
+        image_start = address;
+    else if (!strcmp(name, "_end"))
+        image_end = address;
+    else if (!strcmp(name, "__per_cpu_start"))
+        percpu_start = address;
+    else if (!strcmp(name, "__per_cpu_end"))
+        percpu_end = address;
+    else if (!strcmp(name, "__lockdep_no_validate__"))
+        no_validate = address;
+}
+
+/* The newest load of a module, or NO_LOAD. */
+static int load_of(const char *name) {
+    for (size_t number = load_count; number-- > 0;)
+        if (!strcmp(loads[number].name, name))
+            return (int)number;
+    return NO_LOAD;
+}
+
+static int begin_load(const char *name, uint64_t from) {
+    struct load load = {.name = name, .from = from, .until = UINT64_MAX};
+    PUSH(loads, load_count, load);
+    return (int)load_count - 1;
+}
+
+static bool is_load_line(const char *line) { return !strncmp(line, "load ", 5) || !strncmp(line, "unload ", 7); }
+
+/* `load NUMBER NAME` or `unload NUMBER NAME`. */
+static void note_load(char *line) {
+    const char *word = strsep(&line, " "), *number = strsep(&line, " ");
+    if (!line)
+        return;
+    if (!strcmp(word, "load"))
+        begin_load(line, strtoull(number, NULL, 10));
+    else if (load_of(line) != NO_LOAD)
+        loads[load_of(line)].until = strtoull(number, NULL, 10);
+}
+
+/* The load of a symbol of the module that stands behind its name in brackets. */
+static int load_of_symbol(char *module) {
+    module[strcspn(module, "]")] = 0;
+    int load = load_of(module);
+    return load == NO_LOAD ? begin_load(module, 0) : load;
+}
+
+/* A line in the format of /proc/kallsyms: an address, a kind, a name, and perhaps a module. */
+static void add_symbol(char *line) {
+    char *address = strsep(&line, " "), *kind = strsep(&line, " "), *name = strsep(&line, "\t");
+    char *module = line && *line == '[' ? line + 1 : NULL;
+    if (!name || !kind || !*name || strchr(name, ' '))
+        return;
+    struct symbol symbol = {strtoull(address, NULL, 16), symbol_count, name, module ? load_of_symbol(module) : NO_LOAD};
+    if (!module)
+        note_bound(name, symbol.address);
+    else if (!strcmp(name, "__this_module"))
+        loads[symbol.load].start = symbol.address;
+    PUSH(symbols, symbol_count, symbol);
+}
+
+static void read_symbols(char *text) {
+    for (char *line; (line = strsep(&text, "\n"));)
+        if (is_load_line(line))
+            note_load(line);
+        else
+            add_symbol(line);
+}
+
+/* Symbols of the image and of modules that were loaded before, and then those of modules that were loaded later. */
+void load_symbols(void) {
+    size_t size;
+    const char *name = options.symbols ? options.symbols : "the recording's `symbols`";
+    char *text = options.symbols ? read_file(options.symbols, &size) : read_raw("symbols", &size), *modules = read_raw("modules", &size);
+    if (!text && options.symbols)
+        refuse(options.symbols, "can't be opened");
+    if (text)
+        read_symbols(text);
+    if (symbol_count && !image_start)
+        refuse(name, "has no _text, or root didn't read it");
+    if (!symbol_count && !is_of_text)
+        incomplete("there are no symbols: classes of one name are joined");
+    if (modules)
+        read_symbols(modules);
+    qsort(symbols, symbol_count, sizeof *symbols, by_address);
+}
+
+/* Whether a symbol was there at a record. */
+static bool was_there(const struct symbol *symbol, uint64_t number) {
+    return symbol->load == NO_LOAD || (loads[symbol->load].from <= number && number <= loads[symbol->load].until);
+}
+
+/* The symbol that contains an address at a record: the last that isn't above it. Those of modules don't reach far. */
+const struct symbol *symbol_at(uint64_t address, uint64_t number) {
+    size_t low = 0, high = symbol_count;
+    while (low < high) {
+        size_t middle = (low + high) / 2;
+        if (symbols[middle].address <= address)
+            low = middle + 1;
+        else
+            high = middle;
+    }
+    size_t last = low > SYMBOLS_AROUND ? low - SYMBOLS_AROUND : 0;
+    while (low > last && !was_there(&symbols[low - 1], number))
+        low--;
+    if (low == last)
+        return NULL;
+    const struct symbol *symbol = &symbols[low - 1];
+    return symbol->load != NO_LOAD && address - symbol->address > MODULE_REACH ? NULL : symbol;
+}
+
+/* The function that a caller is in, of the image or of a module. */
+const struct symbol *function_at(uint64_t place, uint64_t number) {
+    const struct symbol *symbol = symbol_at(place, number);
+    bool is_in_image = place >= image_start && place < image_end;
+    return symbol && (symbol->load != NO_LOAD || is_in_image) ? symbol : NULL;
+}
+
+/* The load whose module contains an address at a record, or NO_LOAD. */
+int load_at(uint64_t address, uint64_t number) {
+    const struct symbol *symbol = load_count ? symbol_at(address, number) : NULL;
+    return symbol ? symbol->load : NO_LOAD;
+}
