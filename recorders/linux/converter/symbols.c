@@ -62,11 +62,14 @@ static int load_of_symbol(char *module) {
     return load == NO_LOAD ? begin_load(module, 0) : load;
 }
 
+/* Where a section of a module begins or ends, which may be where a variable lies. */
+static bool is_mark(const char *name) { return !strncmp(name, "__start_", 8) || !strncmp(name, "__stop_", 7); }
+
 /* A line in the format of /proc/kallsyms: an address, a kind, a name, and perhaps a module. */
 static void add_symbol(char *line) {
     char *address = strsep(&line, " "), *kind = strsep(&line, " "), *name = strsep(&line, "\t");
     char *module = line && *line == '[' ? line + 1 : NULL;
-    if (!name || !kind || !*name || strchr(name, ' '))
+    if (!name || !kind || !*name || strchr(name, ' ') || (module && is_mark(name)))
         return;
     struct symbol symbol = {strtoull(address, NULL, 16), symbol_count, name, module ? load_of_symbol(module) : NO_LOAD};
     if (!module)
