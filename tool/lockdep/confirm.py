@@ -142,7 +142,8 @@ def are_written(folder: str, asked: Asked, forms: dict[str, str]) -> bool:
     """Writes the forms that `run` writes of a recording. Whether all could be."""
     from .report import Recording, Report, Wishes
     from .summary import read
-    lost = ", ".join(read(folder, HOME).left_out() + asked.left_out)
+    lost_in = why_incomplete(folder) if is_of_kernel(folder) else read(folder, HOME).left_out()
+    lost = ", ".join(lost_in + asked.left_out)
     made = Report(Recording(folder, text_in(os.path.join(folder, "SUMMARY")), lost), Wishes(**forms), asked)
     made.sort()
     made.look_deeper()
