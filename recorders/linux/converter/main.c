@@ -4,6 +4,7 @@
 
 #include <errno.h>
 #include <sys/stat.h>
+#include <unistd.h>
 
 static const char usage[] = "usage: convert [-o FOLDER] [--version-1] [--repeats] [--full-names] [--only RE] [--only-module NAME] [--keys N] "
                             "[--most-traces N] [--symbols FILE] [--vmlinux FILE] [--ko FILE]... RAW";
@@ -89,6 +90,9 @@ static void clear_folder(void) {
     size_t size;
     if (mkdir(options.folder, 0777) && errno != EEXIST)
         refuse(options.folder, "can't be made");
+    snprintf(path, sizeof path, "%s/RECORDED", options.folder);
+    if (!access(path, F_OK))
+        refuse(options.folder, "has a recording of a program, which would be lost: choose another folder by -o");
     snprintf(path, sizeof path, "%s/tasks", options.folder);
     char *list = read_file(path, &size), *rest = list;
     for (char *line; list && (line = strsep(&rest, "\n"));)
