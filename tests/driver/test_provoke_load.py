@@ -9,7 +9,7 @@ import tempfile
 import unittest
 from unittest import mock
 
-from lockdep import provoke, provoke_load
+from lockdep import provoke_load, provoke_recorded
 from lockdep.provoke_holders import Preloaded
 
 DEAF = "import os, signal, sys, time; signal.signal(signal.SIGTERM, signal.SIG_IGN); open(os.path.join(sys.argv[1], '%d-0.arena' % os.getpid()), 'w'); time.sleep(99)"
@@ -27,8 +27,8 @@ class AProgramThatDoesntEnd(unittest.TestCase):
         with tempfile.TemporaryDirectory() as folder, mock.patch.object(provoke_load, "PATIENCE", 0.1):
             holder = mock.Mock(spec=Preloaded)
             holder.takes_locks = lambda path: path.endswith(".arena")
-            status = provoke.end_of_recording(self.recorder(folder), folder, "true", holder)
-            self.assertEqual(os.waitstatus_to_exitcode(status), signal.SIGKILL)
+            status = provoke_recorded.end_of_recording(self.recorder(folder), folder, "true", holder)
+            self.assertEqual(status, signal.SIGKILL)
 
     def test_descendants_are_children_and_what_they_started(self) -> None:
         child = subprocess.Popen([sys.executable, "-c", "import subprocess, sys; subprocess.Popen(['sleep', '99']); print(flush=True); sys.stdin.read()"],
@@ -36,9 +36,9 @@ class AProgramThatDoesntEnd(unittest.TestCase):
         self.addCleanup(child.stdout.close)
         self.addCleanup(child.communicate)
         child.stdout.readline()
-        found = provoke.descendants(os.getpid())
+        found = provoke_recorded.descendants(os.getpid())
         self.assertIn(child.pid, found)
-        below = provoke.descendants(child.pid)
+        below = provoke_recorded.descendants(child.pid)
         self.assertEqual(len(below), 1)
         self.assertLessEqual(set(below), set(found))
         os.kill(below[0], signal.SIGKILL)
