@@ -368,6 +368,8 @@ __attribute__((noinline)) static bool look_up(struct call call) {
     return state >= DONE;
 }
 
+bool heeds_allocator(void) { return is_heeded; }
+
 void heed_allocator(void) {
     int state = DONE;
     is_heeded = true;

@@ -31,6 +31,14 @@ void use_allocator(struct call call) {
     errno = saved;
 }
 
+extern char __libc_single_threaded __attribute__((weak)); /* (glibc has it since 2.32) */
+
+/* It is locked in a fork if there is a second thread. */
+void use_allocator_in_fork(struct call call) {
+    if (RARELY(heeds_allocator()) && &__libc_single_threaded && !__libc_single_threaded)
+        use_allocator(call);
+}
+
 /* ---- The others, which a library of its own tells, the folder `library`. A stream knows its owner. */
 
 static bool is_used(const struct thread *t, uintptr_t lock) {

@@ -216,6 +216,7 @@ bool is_below_end(uintptr_t lock, struct call call);
 /* ---- heap.c */
 
 void heed_allocator(void); /* its calls are to be recorded as those of a lock */
+bool heeds_allocator(void);
 void note_piece(void *piece, size_t size, uint64_t element, struct call call);
 void drop_piece(uintptr_t address, size_t size);
 struct memory { /* the piece that a lock is in */
@@ -424,6 +425,7 @@ void leave_for(const ucontext_t *to, struct call call); /* the thread goes on th
 /* ---- library.c: what the C library locks inside, if that is wanted. */
 
 void use_allocator(struct call call);
+void use_allocator_in_fork(struct call call);
 
 /* ---- joins.c */
 

@@ -23,6 +23,7 @@ FIND_AT_START(REALS)
    otherwise. A child that is forked in another way is known when it takes a lock. */
 
 EXPORT pid_t fork(void) {
+    use_allocator_in_fork(HERE);
     pid_t child = REAL(fork)();
     if (child == 0)
         begin_in_fork();
