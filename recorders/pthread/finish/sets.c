@@ -124,7 +124,9 @@ static void add_once(struct locks *locks, int key) {
         PUSH(locks->keys, locks->count, key);
 }
 
-static enum raw_knows what_it_knows(const struct arena *a, uint32_t object) { return ((const struct raw_object *)part_of(a, RAW_OBJECTS, object))->knows; }
+static enum raw_knows what_it_knows(const struct arena *a, uint32_t object) {
+    return (enum raw_knows)((const struct raw_object *)part_of(a, RAW_OBJECTS, object))->knows;
+}
 
 bool is_queued(const struct arena *a, uint32_t object, enum mode mode) { return mode == MODE_READ && what_it_knows(a, object) == KNOWS_WRITER; }
 

@@ -1,5 +1,5 @@
-/* Other locks of the C library: that of the connection to the system's log, that of the time zone, which every conversion of a time takes, that of random
-   numbers, and that of the environment. */
+/* Other locks of the C library: those of the connection to the system's log, of the time zone, which every conversion of a time takes, of random
+   numbers, and of the environment. */
 #include "library.h"
 
 #include <stdarg.h>
@@ -46,7 +46,8 @@ WITH(timezone, time_t, mktime, (struct tm * told), (told))
 WITH(timezone, time_t, timegm, (struct tm * told), (told))
 WITH(timezone, char *, ctime, (const time_t *time), (time))
 WITH(timezone, char *, ctime_r, (const time_t *restrict time, char *restrict text), (time, text))
-WITH(timezone, size_t, strftime, (char *restrict text, size_t room, const char *restrict format, const struct tm *restrict told), (text, room, format, told))
+WITH(timezone, size_t, strftime, (char *restrict text, size_t room, const char *restrict format, const struct tm *restrict told),
+     (text, room, format, told))
 WITH(timezone, void, tzset, (void), ())
 
 WITH(random, long, random, (void), ())

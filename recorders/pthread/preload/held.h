@@ -119,7 +119,7 @@ struct thread {
     bool has_lost_turns;
     bool has_allocated; /* in this state, and, of a run of a handler, in this run: that is recorded once */
     uint8_t used_count;
-    uintptr_t used[MOST_USED]; /* the other locks inside the C library that it has used, in the same state and run; all are forgotten when there are more */
+    uintptr_t used[MOST_USED]; /* the other locks inside the C library that it has used in the same state and run, as far as they are kept */
     struct turn turns[TURNS]; /* the last records of a state; what was taken back may still be among them */
     bool is_running;   /* of a source: a run of it is under way */
     struct thread *next_run; /* of the same thread of the system's */

@@ -1,5 +1,5 @@
-/* wrong: inversion thread:worker table SIGTERM. The handler joins both workers. If it comes in at the first one, which has the lock, it joins that one
-   in vain (EDEADLK), and then the second one, which waits for the lock. */
+/* wrong: inversion thread:worker table SIGTERM. The handler joins both workers. If it comes in at the first one, which has the lock, it joins that
+   one in vain (EDEADLK), and then the second one, which waits for the lock. */
 #include "common.h"
 static LOCK(table);
 static pthread_t t[2];

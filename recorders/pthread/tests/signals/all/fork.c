@@ -1,4 +1,5 @@
-/* wrong: double libc:malloc SIGUSR1. The handler forks while there is a second thread: fork waits for what main allocates with the signal unblocked. */
+/* wrong: double libc:malloc SIGUSR1. The handler forks while there is a second thread: fork waits for what main allocates, with the signal
+   unblocked. */
 #include "../common.h"
 static volatile sig_atomic_t is_over;
 static void on_usr1(int s) { pid_t child = fork(); (void)s; if (child == 0) _exit(0); waitpid(child, NULL, 0); }

@@ -1,4 +1,5 @@
-/* wrong: double libc:stderr SIGUSR1; double libc:stream SIGUSR1. The handler flushes a stream that main reads, and says so on stderr, as main does. */
+/* wrong: double libc:stderr SIGUSR1; double libc:stream SIGUSR1. The handler flushes a stream that main reads, and says so on stderr, as main
+   does. */
 #include "../common.h"
 static FILE *stream;
 static void on_usr1(int s) { (void)s; fflush(stream); perror("handler"); }

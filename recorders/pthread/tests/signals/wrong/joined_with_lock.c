@@ -1,5 +1,5 @@
-/* wrong: inversion table other SIGUSR1; inversion table thread:worker SIGUSR1. Main joins the worker with the lock held. If the signal comes in at the
-   worker meanwhile, its handler waits for that lock, and the worker doesn't end. */
+/* wrong: inversion table other SIGUSR1; inversion table thread:worker SIGUSR1. Main joins the worker with the lock held. If the signal comes in at
+   the worker meanwhile, its handler waits for that lock, and the worker doesn't end. */
 #include "../common.h"
 static LOCK(table); static LOCK(other);
 static volatile sig_atomic_t has_run;
