@@ -41,9 +41,13 @@ fn asked<'l, 'a>(line: &'l Result<Line<'a>, LineFault>) -> Asked<'l, 'a> {
                 files,
             },
         ) => ("graph", *workers, *many, *findings, files.as_slice()),
-        Ok(Line::Condense { workers, files }) => {
-            ("condense", *workers, false, false, files.as_slice())
-        }
+        Ok(
+            Line::Condense {
+                workers,
+                many,
+                files,
+            },
+        ) => ("condense", *workers, *many, false, files.as_slice()),
         Ok(Line::Chains { file: Some(file) }) => ("chains", 0, false, false, from_ref(file)),
         Ok(Line::Chains { file: None }) => ("chains", 0, false, false, &[]),
         Err(LineFault::Help(_)) => ("help", 0, false, false, &[]),
@@ -63,7 +67,7 @@ fn explain_word(locks: bool, confirmed_only: bool) -> &'static str {
 }
 
 // Words, and what they ask for.
-static LINES: [(&[&str], Asked<'_, '_>); 36] = [
+static LINES: [(&[&str], Asked<'_, '_>); 37] = [
     (&["lockdep", "check"], ("check", 4, false, false, &[])),
     (
         &["lockdep", "check", "a.txt"],
@@ -160,6 +164,10 @@ static LINES: [(&[&str], Asked<'_, '_>); 36] = [
     (
         &["lockdep", "condense", "b", "--workers", "2", "a"],
         ("condense", 2, false, false, &["b", "a"]),
+    ),
+    (
+        &["lockdep", "condense", "a", "--many"],
+        ("condense", 4, true, false, &["a"]),
     ),
     (&["lockdep", "graph"], ("graph", 4, false, false, &[])),
     (
