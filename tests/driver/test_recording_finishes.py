@@ -116,12 +116,24 @@ class Embed(Room):
     def test_a_line_for_single_locks(self):
         for line, single in (("acq,a,0,w", "acq,a#rest,0,w"), ("rel,a,0", "rel,a#rest,0"), ('acq,"a,b",7,trr', 'acq,"a,b#rest",7,trr'),
                              ('rel,"a""b",1', 'rel,"a""b#rest",1'), ("enter,hardirq", "enter,hardirq"), ("leave", "leave"), ("lockdep,2", "lockdep,2")):
-            self.assertEqual(finish_embed.Line(line).single, single)
+            self.assertEqual(finish_embed.Line(line, set()).single, single)
+
+    def test_a_line_of_a_lock_with_a_number(self):
+        for line, of_class, single in (("acq,a#1,0,w", "acq,a,0,w", "acq,a#1,0,w"), ("rel,a#0,1", "rel,a,1", "rel,a#0,1"),
+                                       ('acq,"a,b#12",7,trr', 'acq,"a,b",7,trr', 'acq,"a,b#12",7,trr'),
+                                       ("acq,a#b#3,0,w", "acq,a#b,0,w", "acq,a#b#3,0,w"), ("acq,a#rest,0,w", "acq,a,0,w", "acq,a#rest,0,w"),
+                                       ("acq,a#01,0,w", "acq,a#01,0,w", "acq,a#01#rest,0,w"), ("acq,#1,0,w", "acq,#1,0,w", "acq,#1#rest,0,w")):
+            self.assertEqual((finish_embed.Line(line, set()).of_class, finish_embed.Line(line, set()).single), (of_class, single))
+
+    def test_more_locks_than_have_names(self):
+        own = {"a#%d" % number for number in range(finishing.MOST_LOCKS)}
+        self.assertEqual(finish_embed.Line("acq,a#7,0,w", own).single, "acq,a#7,0,w")
+        self.assertEqual(finish_embed.Line("acq,a#%d,0,w" % finishing.MOST_LOCKS, own).single, "acq,a#rest,0,w")
 
     def test_names_that_leave_no_room(self):
         for length, is_told_apart in ((59, True), (60, False)):
-            self.assertEqual(finish_embed.Line("acq,%s,0,w" % ("n" * length)).is_told_apart, is_told_apart)
-        self.assertTrue(finish_embed.Line('acq,"%s",0,w' % ('""' * 59)).is_told_apart)
+            self.assertEqual(finish_embed.Line("acq,%s,0,w" % ("n" * length), set()).is_told_apart, is_told_apart)
+        self.assertTrue(finish_embed.Line('acq,"%s",0,w' % ('""' * 59), set()).is_told_apart)
 
     def test_a_recording(self):
         self.put("task-0001.csv", "lockdep,2\nacq,a,0,w\nacq,b,1,r\nrel,a,0\n")

@@ -6,7 +6,7 @@ import os
 import re
 
 from . import losses
-from .finishing import OBJECTS, REST, Tally, write_classes, write_lines
+from .finishing import MOST_LOCKS, OBJECTS, REST, Tally, write_classes, write_lines
 from .folder import fault, remove, remove_tree
 from .saying import Refusal, write_error
 from .summary import Count, File, Summary, write
@@ -19,8 +19,9 @@ Usage: finish [FOLDER]
           ldr_places was called for it
 
 It writes FOLDER/SUMMARY, FOLDER/summary.json, FOLDER/classes and FOLDER/objects, and prints what was seen and what was left
-out. A record at the end of a trace that was cut off is removed, and so is a trace without a single byte. Of traces that are
-the same to the byte 32 are kept.
+out. A name CLASS#N is that of a single lock: FOLDER/objects keeps it, and the traces themselves get CLASS. A record at the end
+of a trace that was cut off is removed, and so is a trace without a single byte. Of traces that are the same to the byte 32 are
+kept.
 
 The status is 0; 1 if something was left out, or if that isn't known; and 2 if no lock was seen.
 """
@@ -40,26 +41,36 @@ UNSEEN = ("no lock was seen, so a report of this recording says nothing: is ldr_
           "ldr_flush before the end?")
 
 
-class Line:
-    """A line of a trace, whatever trace it stands in."""
+SINGLE = re.compile("(.+)(?:#(?:0|[1-9][0-9]*)|%s)" % REST, re.S)  # the name of a single lock, or of all those of a class that have none
 
-    def __init__(self, text: str) -> None:
-        self.text, self.single, self.key, self.name = text, text, "", ""
+
+class Line:
+    """A line of a trace, whatever trace it stands in: by classes, and by single locks."""
+
+    def __init__(self, text: str, own: set[str]) -> None:
+        self.text, self.of_class, self.single, self.key, self.name = text, text, text, "", ""
         self.event = text[:3] if text[:4] in ("acq,", "rel,") else ""
         self.is_told_apart = True
         if self.event:
-            self.look_at_lock(text[4:])
+            self.look_at_lock(text[4:], own)
 
-    def look_at_lock(self, rest: str) -> None:
+    def look_at_lock(self, rest: str, own: set[str]) -> None:
+        """`own` has the single locks that keep their names: there is room for so many, and others are told by their classes."""
         before, comma, mode = rest.rpartition(",")
         self.key = before if comma and mode in MODES else rest  # the name with its subclass, as both are written
         name, comma, subclass = self.key.rpartition(",")
-        self.name = name if comma and subclass in SUBCLASSES else self.key
-        is_quoted = len(self.name) > 1 and self.name[0] == self.name[-1] == '"'
-        plain = self.name[1:-1] if is_quoted else self.name
-        self.is_told_apart = len(plain.replace('""', '"').encode("utf-8", "surrogateescape")) <= MOST_NAME
-        single = '"%s%s"' % (plain, REST) if is_quoted else plain + REST
-        self.single = self.event + "," + single + rest[len(self.name):]
+        written = name if comma and subclass in SUBCLASSES else self.key
+        is_quoted = len(written) > 1 and written[0] == written[-1] == '"'
+        plain = written[1:-1] if is_quoted else written
+        match = SINGLE.fullmatch(plain)
+        of = match.group(1) if match else plain
+        if match and (plain in own or len(own) < MOST_LOCKS):
+            own.add(plain)
+        else:
+            plain = of + REST
+            self.is_told_apart = len(of.replace('""', '"').encode("utf-8", "surrogateescape")) <= MOST_NAME
+        self.name, single = ('"%s"' % of, '"%s"' % plain) if is_quoted else (of, plain)
+        self.of_class, self.single = (self.event + "," + each + rest[len(written):] for each in (self.name, single))
 
 
 class Trace:
@@ -91,6 +102,8 @@ class Finish:
     def __init__(self, path: str) -> None:
         self.path, self.tally = path, Tally("embed")
         self.lines: dict[str, Line] = {}
+        self.own: set[str] = set()  # the single locks that have names of their own
+        self.told_apart: dict[str, str] = {}  # what an earlier finish of these traces has told apart, by the trace
         self.traces: dict[bytes, Trace] = {}  # by the digests of their texts
         self.alike: dict[bytes, int] = {}
 
@@ -101,8 +114,14 @@ class Finish:
     def line(self, text: str) -> Line:
         found = self.lines.get(text)
         if found is None:
-            found = self.lines[text] = Line(text)
+            found = self.lines[text] = Line(text, self.own)
         return found
+
+    def source(self, name: str) -> str:
+        """The text of a trace. If it is by classes, since it was finished before, it is that by single locks."""
+        text, earlier = self.text(name), self.told_apart.get(name, "")
+        is_same = earlier and [self.line(line).of_class for line in earlier.split("\n")] == text.split("\n")
+        return earlier if is_same else text
 
     def drop(self, name: str) -> None:
         for each in (name, name + ".places"):
@@ -110,7 +129,7 @@ class Finish:
 
     def take(self, name: str) -> None:
         """Takes a trace. It is kept, beside the same by single locks, or dropped."""
-        text = self.text(name)
+        text = self.source(name)
         if not text:
             self.tally.add("lost-threads")
             self.drop(name)
@@ -147,13 +166,15 @@ class Finish:
             self.tally.add("unended-traces" if text else "unplaced-traces")
 
     def keep(self, name: str, lines: list[Line], is_cut: bool) -> None:
-        if is_cut:
-            write_lines(os.path.join(self.path, name), [line.text for line in lines])
+        if is_cut or any(line.of_class != line.text for line in lines):
+            write_lines(os.path.join(self.path, name), [line.of_class for line in lines])
         if lines:
             write_lines(os.path.join(self.path, OBJECTS, name), [line.single for line in lines])
 
     def run(self) -> Summary:
         objects = os.path.join(self.path, OBJECTS)
+        if is_folder(objects):
+            self.told_apart = {name: self.text(os.path.join(OBJECTS, name)) for name in trace_names(objects)}
         remove_tree(objects)
         os.mkdir(objects)
         for name in trace_names(self.path):
@@ -179,6 +200,10 @@ def trace_names(path: str) -> list[str]:
 
 def is_plain(path: str) -> bool:
     return os.path.isfile(path) and not os.path.islink(path)
+
+
+def is_folder(path: str) -> bool:
+    return os.path.isdir(path) and not os.path.islink(path)
 
 
 # ---- A recording by `record`: the program wrote the traces there, and they stay as they are.

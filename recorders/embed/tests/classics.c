@@ -62,6 +62,23 @@ static void philosophers(void) {
     }
 }
 
+/* The same with forks of one class, each of which has a number. */
+static void numbered(void) {
+    static const char *const numbered_forks[] = {"fork#1", "fork#2", "fork#3"};
+    for (unsigned i = 0; i < 3; i++) {
+        dine(begin_task(i), numbered_forks[i], numbered_forks[(i + 1) % 3]);
+        end_task(i);
+    }
+}
+
+/* The lower number comes first, so no two forks are taken both ways; one has no number. */
+static void numbered_in_order(void) {
+    dine(begin_task(0), "fork#1", "fork#2");
+    end_task(0);
+    dine(begin_task(1), "table", "fork#10");
+    end_task(1);
+}
+
 /* ---- A bank: both accounts of a transfer are of one class, unless the lower one is taken first and told apart. */
 
 static void transfer(struct ldr_task *task) {
@@ -222,6 +239,7 @@ static const struct {
     void (*run)(void);
 } programs[] = {
     {"philosophers", philosophers}, {"bank", bank},       {"good_bank", good_bank},
+    {"numbered", numbered},         {"numbered_in_order", numbered_in_order},
     {"reader", reader},             {"good_reader", good_reader}, {"interrupt", interrupt},
     {"opening", opening},           {"good_interrupt", good_interrupt}, {"ten", ten},
     {"held", held},                 {"none", none},       {"unended", unended},
