@@ -156,6 +156,12 @@ static bool extend(int file, uint64_t bytes) {
 static char *private_from;
 static uint64_t private_room, private_used, private_used_above;
 
+/* The second half of the mapping is for large tables that only a program with much memory needs. These are in huge pages, if the system has
+   such: a table that is read at random is dear in small ones, and so is the first use of each of them. */
+#define HUGE_PAGE (UINT64_C(1) << 21)
+static char *spare_from;
+static uint64_t spare_room, spare_used;
+
 /* So much is what every program uses of the file, and of the library's variables from the life page on. The system makes these pages in one go,
    which is cheaper than one by one. */
 #define USED_OF_FILE 8192
@@ -176,9 +182,12 @@ static void map_private(uint64_t allowed) {
         if (p == MAP_FAILED)
             continue;
         advise(p, bytes, MADV_DONTDUMP);
-        advise(p, bytes, MADV_NOHUGEPAGE); /* else the first use of it takes two megabytes */
         private_from = p;
-        private_room = bytes;
+        private_room = bytes / 2;
+        spare_from = (char *)rounded((uintptr_t)p + private_room, HUGE_PAGE);
+        spare_room = bytes - least(bytes, (uint64_t)(spare_from - private_from));
+        advise(p, (uint64_t)(spare_from - private_from), MADV_NOHUGEPAGE); /* else the first use of it takes two megabytes */
+        advise(spare_from, spare_room, MADV_HUGEPAGE);
         return;
     }
 }
@@ -216,9 +225,18 @@ void *take_private(size_t bytes) {
     return is_much ? private_from + private_room - used : private_from + used - bytes;
 }
 
-/* For what can be done without: it may have no more than half of the room. */
+/* In whole huge pages. */
 void *take_spare(size_t bytes) {
-    return LOAD(&private_used) + LOAD(&private_used_above) + bytes <= private_room / 2 ? take_private(bytes) : NULL;
+    bytes = rounded(bytes, HUGE_PAGE);
+    if (bytes > spare_room || LOAD(&spare_used) > spare_room - bytes)
+        return NULL;
+    uint64_t from = ADD(&spare_used, bytes);
+    return from <= spare_room - bytes ? spare_from + from : NULL;
+}
+
+void *take_table(size_t bytes) {
+    void *spare = bytes < HUGE_PAGE ? NULL : take_spare(bytes);
+    return spare ? spare : take_private(bytes);
 }
 
 /* ---- The beginning. */

@@ -42,7 +42,7 @@ static struct slot *level_at(int level) {
     struct slot *slots = LOAD(&levels[level]);
     if (LIKELY(slots))
         return slots;
-    struct slot *made = take_private(sizeof *made * WAYS << bits[level]);
+    struct slot *made = take_table(sizeof *made * WAYS << bits[level]);
     return made && SWAP(&levels[level], &slots, made) ? made : slots;
 }
 
@@ -229,7 +229,7 @@ static uint64_t *find_piece(uintptr_t address) {
 }
 
 void note_piece(void *piece, size_t size, uint64_t element, struct call call) {
-    struct asked asked = ask_for_piece(call, element);
+    struct asked asked = ask_for_piece(call, size, element);
     if (is_noted_size(size))
         put_noted(piece, size, &asked);
 }
@@ -406,7 +406,7 @@ EXPORT __attribute__((flatten)) void *malloc(size_t size) {
     uint64_t element = asked_element(size);
     if (RARELY(!is_noted_size(size) || !arena))
         return real_malloc(size);
-    struct asked asked = ask_for_piece(HERE, element);
+    struct asked asked = ask_for_piece(HERE, size, element);
     void *piece = real_malloc(size);
     if (LIKELY(piece))
         put_noted(piece, size, &asked);

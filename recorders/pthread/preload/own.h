@@ -100,7 +100,8 @@ static inline void *part_of(enum raw_kind kind, uint32_t number) {
 }
 struct raw_record *take_chunk(uint32_t chunk);
 void *take_private(size_t bytes); /* zeroed memory that is never given back, or NULL */
-void *take_spare(size_t bytes); /* the same, for what can be done without */
+void *take_spare(size_t bytes); /* the same, for a large table that can be done without */
+void *take_table(size_t bytes); /* the same, for one that can't */
 
 
 /* ---- tables.c */
@@ -121,7 +122,7 @@ static inline uint64_t block_line(uint64_t block, uint32_t line_bits) {
 /* Where in its line of eight slots something is looked for first: no two pieces that malloc gives out of one block have the same. */
 static inline uint64_t own_way(uint64_t address) { return address >> (BLOCK_BITS - 3) & 7; }
 
-#define NAMES_LEVELS 4
+#define NAMES_LEVELS 5
 struct names; /* from a number, the lowest bit of which doesn't matter, to a number, for what is defined once */
 struct names_line;
 struct names {
@@ -201,6 +202,7 @@ void forget_rules(void);
 extern uint32_t rules_epoch; /* changes when a library is closed */
 uint64_t stack_above(struct call call); /* the bytes of the stack from the call's frame on; 0 if that isn't known */
 uintptr_t outer_caller(struct call call, uint64_t stack_bytes); /* of the function that made the call; 0 if that isn't known at once */
+bool quick_callers(struct call call, uint64_t stack_bytes, uintptr_t *callers, uint32_t count); /* the innermost first, if they are known at once */
 bool has_returned(struct call call, struct call earlier, uintptr_t function); /* which was called there, further up on the stack */
 bool is_left(struct call call, struct call earlier); /* a jump has left that call of a function of ours */
 bool has_word(uintptr_t address, uint32_t word);
@@ -278,8 +280,10 @@ struct asked { /* a call, what it makes, where its place is looked for, and how 
     uint64_t element; /* of an array, as in raw_place */
     uint64_t stack_bytes;
     struct memo *memos;
+    uint64_t salt;
+    bool is_tiny; /* without room for a mutex */
 };
-struct asked ask_for_piece(struct call call, uint64_t element); /* before the piece is there */
+struct asked ask_for_piece(struct call call, size_t size, uint64_t element); /* before the piece is there */
 uint32_t place_of_piece(const struct asked *asked);
 void forget_places_in_closed_modules(void);
 

@@ -42,8 +42,9 @@ uint32_t place_of_caller(uintptr_t caller) {
    found, it is the same. One sum tells that of all of them, and tells a reader that comes while it is written. A memo is a line of the
    processor's. */
 
-#define MEMOS 16384
 #define FIRST_MEMOS 4
+#define MORE_MEMOS 4096
+#define MOST_MEMOS 65536
 #define MEMO_WAYS 4
 #define WORD 8
 
@@ -58,10 +59,27 @@ struct memo {
     uint16_t at[RAW_FRAMES]; /* in words; after the last one again where the first one is */
 } __attribute__((aligned(64)));
 
-TABLE(struct memo, memos, FIRST_MEMOS, MEMOS);
-static uint32_t memos_in_use = FIRST_MEMOS, memos_made; /* as with the rules of stacks */
+/* They are kept in one of three tables, the next one if so many were made that one doesn't suffice. Its size is to be read before where it is. */
+static struct memo first_memos[FIRST_MEMOS];
+static struct memo more_memos[MORE_MEMOS] LARGE;
+static struct memo *memos = first_memos;
+static uint64_t memos_in_use = FIRST_MEMOS, memos_made;
 
 static bool are_many_memos(void) { return __atomic_load_n(&memos_in_use, __ATOMIC_RELAXED) > FIRST_MEMOS; }
+
+/* One table comes after the other, so there is never a larger size than that of the table that is there. */
+static void use_memos(struct memo *full, struct memo *next, uint64_t count) {
+    if (next && SWAP(&memos, &full, next))
+        STORE(&memos_in_use, count);
+}
+
+static __attribute__((noinline)) void count_memo(void) {
+    uint64_t made = ADD(&memos_made, 1) + 1;
+    if (made == FIRST_MEMOS)
+        use_memos(first_memos, more_memos, MORE_MEMOS);
+    else if (made == MORE_MEMOS)
+        use_memos(more_memos, take_spare(MOST_MEMOS * sizeof *memos), MOST_MEMOS);
+}
 
 /* What a caller counts for, by how far out it is: odd numbers that have nothing to do with each other. */
 static const uint64_t weights[RAW_FRAMES] = {
@@ -70,10 +88,11 @@ static const uint64_t weights[RAW_FRAMES] = {
     0x7b81e5e0309e6043, 0x5c3981a844ab26d9, 0x99ba695ab78d8387, 0x2bcc0d1cd5a93145,
 };
 
-static inline uint64_t rotated(uint64_t element) { return element << 21 | element >> 43; }
+/* What tells two calls with one stack apart: what they make. */
+static inline uint64_t salt_of(uint64_t element, bool is_tiny) { return element << 1 | is_tiny; }
 
-static uint64_t sum_start(uint32_t count, uint32_t place, uint64_t element) {
-    return ((uint64_t)LOAD(&rules_epoch) << 48 ^ (uint64_t)count << 32 ^ place ^ rotated(element)) + 1;
+static uint64_t sum_start(uint32_t count, uint32_t place, uint64_t salt) {
+    return ((uint64_t)LOAD(&rules_epoch) << 48 ^ (uint64_t)count << 32 ^ (place << 1 ^ salt)) + 1;
 }
 
 /* Of the words where the memo has a caller. They lie in the stack, whatever another thread writes to the memo meanwhile. */
@@ -104,12 +123,12 @@ static inline uint32_t place_in(const struct memo *memo, const struct asked *ask
     uint32_t place = __atomic_load_n(&memo->place, __ATOMIC_RELAXED);
     if (__atomic_load_n(&memo->frame, __ATOMIC_RELAXED) != asked->call.frame || count > most || last * WORD >= asked->stack_bytes)
         return 0;
-    uint64_t sum = sum_there(memo, asked->call.frame, last, count) + sum_start(count, place, asked->element);
+    uint64_t sum = sum_there(memo, asked->call.frame, last, count) + sum_start(count, place, asked->salt);
     return sum == LOAD(&memo->sum) ? place : 0;
 }
 
-static void write_memo(struct memo *memo, uintptr_t frame, const struct stack *stack, uint64_t element, uint32_t place) {
-    uint64_t sum = sum_start(stack->count, place, element);
+static void write_memo(struct memo *memo, uintptr_t frame, const struct stack *stack, uint64_t salt, uint32_t place) {
+    uint64_t sum = sum_start(stack->count, place, salt);
     STORE(&memo->frame, 0);
     STORE(&memo->sum, 0);
     for (uint32_t i = 0; i < summed(stack->count); i++) {
@@ -139,20 +158,19 @@ static void make_first(struct memo *memos, uint32_t which) {
 static void remember(const struct asked *asked, const struct stack *stack, uint32_t place) {
     if (!place || !stack->is_bounded || stack->count == 1 || stack->at[stack->count - 1] / WORD - 1 >= UINT16_MAX)
         return;
-    if (RARELY(ADD(&memos_made, 1) == FIRST_MEMOS))
-        STORE(&memos_in_use, MEMOS);
+    count_memo();
     make_first(asked->memos, MEMO_WAYS - 1);
-    write_memo(asked->memos, asked->call.frame, stack, asked->element, place);
+    write_memo(asked->memos, asked->call.frame, stack, asked->salt, place);
 }
 
 /* What tells a call from others. The operators of C++ all call malloc from one place, so the caller behind it counts as well. */
-static inline uint64_t site_key(struct call call, uintptr_t outer, uint64_t element) {
-    return (call.caller ^ outer << 17 ^ rotated(element) ^ (uint64_t)LOAD(&rules_epoch) << 48) * weights[0];
+static inline uint64_t site_key(struct call call, uintptr_t outer, uint64_t salt) {
+    return (call.caller ^ outer << 17 ^ salt ^ (uint64_t)LOAD(&rules_epoch) << 48) * weights[0];
 }
 
 static inline struct memo *memos_of(uint64_t site, uintptr_t frame) {
-    uint64_t which = (site ^ frame * weights[1]) >> 40 & (__atomic_load_n(&memos_in_use, __ATOMIC_RELAXED) - MEMO_WAYS);
-    return NTH(memos, which);
+    uint64_t mask = LOAD(&memos_in_use) - MEMO_WAYS;
+    return LOAD(&memos) + ((site ^ frame * weights[1]) >> 40 & mask);
 }
 
 static struct asked ask(struct call call) {
@@ -202,10 +220,11 @@ static inline void put_place_at(uint64_t *word, uint64_t key, uint32_t place) {
 
 /* ---- The place of a piece of memory. A call whose stacks vary, as in a program that interprets another one, may have been met with the
    same innermost callers. If these were met in many stacks they alone tell the call: to follow and keep ever new stacks takes several times
-   what malloc does. */
+   what malloc does. Fewer stacks are many for a piece that has no room for a mutex: most pieces are such, and hardly any of them has a lock. */
 
 #define INNERMOST 4 /* the callers that a name has, and an operator of C++ */
 #define MOST_STACKS 256
+#define MOST_TINY_STACKS 32
 #define MET_STACKS 65536
 
 static struct names stacks_of_calls; /* how many stacks were met, by the innermost callers */
@@ -227,10 +246,10 @@ static uint32_t counted_place(const struct stack *stack, uint32_t *met) {
 }
 
 /* ... of a stack that isn't among those that were met last. */
-static __attribute__((noinline)) uint32_t place_of_varied(struct call call, struct stack *stack, uint64_t inner) {
+static __attribute__((noinline)) uint32_t place_of_varied(const struct asked *asked, struct stack *stack, uint64_t inner) {
     uint32_t *met = added_slot(&stacks_of_calls, inner);
-    if (met && LOAD(met) >= MOST_STACKS)
-        take_stack(stack, call, INNERMOST);
+    if (met && LOAD(met) >= (asked->is_tiny ? MOST_TINY_STACKS : MOST_STACKS))
+        take_stack(stack, asked->call, INNERMOST);
     return counted_place(stack, met);
 }
 
@@ -248,19 +267,29 @@ static uint32_t place_of_array(uint32_t plain, struct stack *stack, uint64_t ele
     return place;
 }
 
-/* Of a stack that wasn't met in a memo. Of the innermost callers alone there is another key. */
+/* What tells the innermost callers of a call whose stacks vary. */
+static inline uint64_t key_of_few(const uintptr_t *callers, const struct asked *asked) {
+    uint64_t key = sum_start(INNERMOST, 0, asked->salt) * weights[INNERMOST];
+    UNROLLED
+    for (uint32_t i = 0; i < INNERMOST; i++)
+        key += callers[i] * weights[i];
+    return key;
+}
+
+/* Of a stack that wasn't met in a memo. */
 static uint32_t place_of_stack(const struct asked *asked, struct stack *stack) {
-    uint64_t salt = mixed(LOAD(&rules_epoch)) ^ mixed(asked->element), inner = stack_key(stack), few = ~(inner ^ salt);
-    uint32_t place = place_at(met_stack(few), few);
+    bool is_deep = stack->count == INNERMOST;
+    uint64_t inner = stack_key(stack), few = is_deep ? key_of_few(stack->callers, asked) : 0;
+    uint32_t place = is_deep ? place_at(met_stack(few), few) : 0;
     if (place)
         return place;
     take_stack(stack, asked->call, PIECE_FRAMES);
-    uint64_t all = stack_key(stack) ^ salt;
+    uint64_t all = stack_key(stack) ^ mixed(LOAD(&rules_epoch)) ^ mixed(asked->element);
     place = place_at(met_stack(all), all);
     if (place)
         return place;
     uint32_t count = stack->count;
-    place = place_of_varied(asked->call, stack, inner);
+    place = place_of_varied(asked, stack, inner);
     if (asked->element)
         place = place_of_array(place, stack, asked->element);
     uint64_t key = stack->count < count ? few : all;
@@ -269,9 +298,20 @@ static uint32_t place_of_stack(const struct asked *asked, struct stack *stack) {
     return place;
 }
 
+/* The place of a tiny piece whose innermost callers are known at once, and tell it; else 0. */
+static inline uint32_t quick_place(const struct asked *asked) {
+    uintptr_t callers[INNERMOST];
+    if (!quick_callers(asked->call, asked->stack_bytes, callers, INNERMOST))
+        return 0;
+    uint64_t few = key_of_few(callers, asked);
+    return place_at(met_stack(few), few);
+}
+
 /* ... of a call whose stack isn't the first memo's. */
 static __attribute__((noinline)) uint32_t place_of_followed(const struct asked *asked) {
     uint32_t place = remembered_before(asked, PIECE_FRAMES);
+    if (!place && asked->is_tiny && are_many_memos())
+        place = quick_place(asked);
     if (LIKELY(place))
         return place;
     struct stack stack;
@@ -282,11 +322,10 @@ static __attribute__((noinline)) uint32_t place_of_followed(const struct asked *
 }
 
 /* What is looked for is in the processor's cache by the time that the piece is there. */
-struct asked ask_for_piece(struct call call, uint64_t element) {
-    struct asked asked = {.call = call, .element = element, .stack_bytes = stack_above(call)};
-    uintptr_t outer = outer_caller(call, asked.stack_bytes);
-    uint64_t key = site_key(call, outer, element);
-    asked.memos = memos_of(key, call.frame);
+struct asked ask_for_piece(struct call call, size_t size, uint64_t element) {
+    bool is_tiny = size < sizeof(pthread_mutex_t);
+    struct asked asked = {call, element, stack_above(call), NULL, salt_of(element, is_tiny), is_tiny};
+    asked.memos = memos_of(site_key(call, outer_caller(call, asked.stack_bytes), asked.salt), call.frame);
     __builtin_prefetch(asked.memos);
     return asked;
 }

@@ -33,7 +33,7 @@ static inline uint64_t *short_word(uintptr_t address) {
 }
 
 static void *made_at(void *at, size_t bytes) {
-    void *there = NULL, *made = take_spare(bytes);
+    void *there = NULL, *made = bytes < AREA_WORDS * sizeof(uint64_t) ? take_private(bytes) : take_spare(bytes);
     return made && SWAP((void **)at, &there, made) ? made : there;
 }
 

@@ -355,6 +355,8 @@ static struct rule rule_of(uintptr_t caller) {
 #define LARGEST_FRAME (UINT64_C(16) << 20)
 #define LARGEST_STACK (UINT64_C(1) << 30)
 
+#define WORD sizeof(uintptr_t)
+
 struct frame {
     uintptr_t caller, sp, bp; /* the function that goes on at `caller`, and its registers there */
     uintptr_t limit;          /* the stack ends here at the latest */
@@ -383,25 +385,48 @@ uint64_t stack_above(struct call call) {
     return end ? end - call.frame : 0;
 }
 
-/* Where the return address behind the first one is, by the first: a word has its 48 bits, and how far away the other one is, in words; 0 if
-   that isn't a constant. It is only a hint, so nothing tells that a library was closed. */
+/* Where the return address behind another one is, by that one: a word has its 48 bits, and how far away the other one is, in words; 0 if
+   that isn't a constant. */
 #define OUTER 512
+#define FURTHER 4096
 #define OUTER_BITS 16
-static uint64_t outer[OUTER];
+static uint64_t outer[OUTER];           /* of callers of ours */
+static uint64_t further[FURTHER] LARGE; /* and of their callers */
 
-static __attribute__((noinline)) uint64_t new_outer(uintptr_t caller, uint64_t *word) {
+static __attribute__((noinline)) uint64_t new_outer(uintptr_t caller, uint64_t key, uint64_t *word) {
     struct rule rule = rule_of(caller);
-    uint64_t words = rule.base == BASE_SP && rule.offset > 0 ? (uint64_t)rule.offset / 8 + 1 : 0;
-    *word = caller << OUTER_BITS | (words >> OUTER_BITS ? 0 : words);
+    uint64_t words = rule.base == BASE_SP && rule.offset > 0 ? (uint64_t)rule.offset / WORD : 0;
+    *word = key << OUTER_BITS | (words >> OUTER_BITS ? 0 : words);
     return *word;
 }
 
+/* ... in bytes, as the table has it. */
+static inline uint64_t outer_distance(uintptr_t caller, uint64_t key, uint64_t *at) {
+    uint64_t word = __atomic_load_n(at, __ATOMIC_RELAXED);
+    if (RARELY(word >> OUTER_BITS != key))
+        word = new_outer(caller, key, at);
+    return (word & ((1 << OUTER_BITS) - 1)) * WORD;
+}
+
+/* It is only a hint, so nothing tells that a library was closed. */
 uintptr_t outer_caller(struct call call, uint64_t stack_bytes) {
-    uint64_t *at = &outer[(call.caller ^ call.caller >> 9) % OUTER], word = __atomic_load_n(at, __ATOMIC_RELAXED);
-    if (RARELY(word >> OUTER_BITS != call.caller))
-        word = new_outer(call.caller, at);
-    uint64_t behind = (word & ((1 << OUTER_BITS) - 1)) * 8;
-    return LIKELY(behind && behind < stack_bytes) ? word_at(call.frame + behind) : 0;
+    uint64_t behind = outer_distance(call.caller, call.caller, &outer[(call.caller ^ call.caller >> 9) % OUTER]);
+    return LIKELY(behind && behind + WORD < stack_bytes) ? word_at(call.frame + behind + WORD) : 0;
+}
+
+/* The callers themselves count here, so the key is another one if a library was closed. */
+bool quick_callers(struct call call, uint64_t stack_bytes, uintptr_t *callers, uint32_t count) {
+    uint64_t epoch = (uint64_t)LOAD(&rules_epoch) << 32, at = WORD; /* from the call's frame on */
+    callers[0] = call.caller;
+    for (uint32_t i = 1; i < count; i++) {
+        uintptr_t inner = callers[i - 1];
+        uint64_t distance = outer_distance(inner, (inner ^ epoch) & UINT64_MAX >> OUTER_BITS, &further[(inner ^ inner >> 12) % FURTHER]);
+        at += distance;
+        if (RARELY(!distance || at >= stack_bytes))
+            return false;
+        callers[i] = word_at(call.frame + at);
+    }
+    return true;
 }
 
 static bool is_near(const struct frame *f, uintptr_t address) {
@@ -568,6 +593,11 @@ uint64_t stack_above(struct call call) {
 uintptr_t outer_caller(struct call call, uint64_t stack_bytes) {
     (void)call, (void)stack_bytes;
     return 0;
+}
+
+bool quick_callers(struct call call, uint64_t stack_bytes, uintptr_t *callers, uint32_t count) {
+    (void)call, (void)stack_bytes, (void)callers, (void)count;
+    return false;
 }
 
 uintptr_t followed_to(struct call call, uintptr_t most) {

@@ -12,13 +12,13 @@ struct names_line {
     } slots[NAMES_WAYS];
 };
 
-static const uint32_t names_bits[NAMES_LEVELS] = {2, 7, 13, 18}; /* of the number of lines */
+static const uint32_t names_bits[NAMES_LEVELS] = {2, 7, 11, 14, 18}; /* of the number of lines */
 
 static struct names_line *names_level(struct names *names, int level, bool make) {
     struct names_line *lines = LOAD(&names->levels[level]);
     if (lines || !make)
         return lines;
-    struct names_line *made = take_private(sizeof *made << names_bits[level]);
+    struct names_line *made = take_table(sizeof *made << names_bits[level]);
     if (made && SWAP(&names->levels[level], &lines, made))
         return made;
     return lines;
@@ -92,7 +92,7 @@ static uint64_t *lock_level(int level, bool make) {
     uint64_t *slots = LOAD(&lock_levels[level]);
     if (slots || !make)
         return slots;
-    uint64_t *made = take_private(sizeof *made * LOCK_WAYS << lock_bits[level]);
+    uint64_t *made = take_table(sizeof *made * LOCK_WAYS << lock_bits[level]);
     if (made && SWAP(&lock_levels[level], &slots, made))
         return made;
     return slots;

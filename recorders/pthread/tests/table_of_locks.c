@@ -11,7 +11,7 @@
 static uintptr_t addresses[LOCKS];
 static bool is_known[LOCKS];
 
-void *take_private(size_t bytes) { return calloc(1, bytes); }
+void *take_table(size_t bytes) { return calloc(1, bytes); }
 
 /* Nothing is said of these locks. */
 uint32_t is_anything_said;
