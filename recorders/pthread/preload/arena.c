@@ -157,8 +157,10 @@ static char *private_from;
 static uint64_t private_room, private_used, private_used_above;
 
 /* The second half of the mapping is for large tables that only a program with much memory needs. These are in huge pages, if the system has
-   such: a table that is read at random is dear in small ones, and so is the first use of each of them. */
+   such: a table that is read at random is dear in small ones, and so is the first use of each of them. A mapping that a limit has made small
+   has no such half. */
 #define HUGE_PAGE (UINT64_C(1) << 21)
+#define LEAST_WITH_SPARE (8 * HUGE_PAGE)
 static char *spare_from;
 static uint64_t spare_room, spare_used;
 
@@ -175,6 +177,16 @@ static void populate(void *from, uint64_t bytes, uint64_t room) { advise(from, l
 static void populate(void *from, uint64_t bytes, uint64_t room) { (void)from, (void)bytes, (void)room; }
 #endif
 
+static void share_private(char *from, uint64_t bytes) {
+    uint64_t half = rounded((uintptr_t)from + bytes / 2, HUGE_PAGE) - (uintptr_t)from;
+    private_from = from;
+    private_room = bytes < LEAST_WITH_SPARE ? bytes : half;
+    spare_from = from + private_room;
+    spare_room = bytes - private_room;
+    advise(from, private_room, MADV_NOHUGEPAGE); /* else the first use of it takes two megabytes */
+    advise(spare_from, spare_room, MADV_HUGEPAGE);
+}
+
 static void map_private(uint64_t allowed) {
     uint64_t bytes = least(PRIVATE_BYTES, allowed);
     for (; bytes >= PRIVATE_LEAST; bytes /= 2) {
@@ -182,12 +194,7 @@ static void map_private(uint64_t allowed) {
         if (p == MAP_FAILED)
             continue;
         advise(p, bytes, MADV_DONTDUMP);
-        private_from = p;
-        private_room = bytes / 2;
-        spare_from = (char *)rounded((uintptr_t)p + private_room, HUGE_PAGE);
-        spare_room = bytes - least(bytes, (uint64_t)(spare_from - private_from));
-        advise(p, (uint64_t)(spare_from - private_from), MADV_NOHUGEPAGE); /* else the first use of it takes two megabytes */
-        advise(spare_from, spare_room, MADV_HUGEPAGE);
+        share_private(p, bytes);
         return;
     }
 }
