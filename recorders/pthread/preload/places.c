@@ -3,12 +3,16 @@
 
 static struct names places;
 
-static uint64_t stack_key(const struct stack *stack) {
-    uint64_t key = mixed(stack->element) ^ stack->callers[0];
-    for (uint32_t i = 1; i < stack->count; i++)
+/* A key of callers is begun with the first one, and goes on with those from one to another. */
+static uint64_t begun_key(const struct stack *stack) { return mixed(stack->element) ^ stack->callers[0]; }
+
+static uint64_t longer_key(uint64_t key, const struct stack *stack, uint32_t from, uint32_t to) {
+    for (uint32_t i = from; i < to; i++)
         key = mixed(key) ^ stack->callers[i];
-    return mixed(key);
+    return key;
 }
+
+static uint64_t stack_key(const struct stack *stack) { return mixed(longer_key(begun_key(stack), stack, 1, stack->count)); }
 
 static uint32_t define_place(const struct stack *stack) {
     uint32_t number = take_part(RAW_PLACES);
@@ -232,9 +236,9 @@ static uint64_t met_stacks[MET_STACKS] LARGE;
 
 static uint64_t *met_stack(uint64_t key) { return &met_stacks[(key >> 32) % MET_STACKS]; }
 
-/* The place of a stack, which is counted if it is new. */
-static uint32_t counted_place(const struct stack *stack, uint32_t *met) {
-    uint32_t *slot = added_slot(&places, stack_key(stack));
+/* The place of a stack with this key, which is counted if it is new. */
+static uint32_t counted_place(const struct stack *stack, uint64_t key, uint32_t *met) {
+    uint32_t *slot = added_slot(&places, key);
     if (!slot)
         return 0;
     uint32_t place = LOAD(slot);
@@ -245,12 +249,14 @@ static uint32_t counted_place(const struct stack *stack, uint32_t *met) {
     return settled(slot, define_place(stack));
 }
 
-/* ... of a stack that isn't among those that were met last. */
-static __attribute__((noinline)) uint32_t place_of_varied(const struct asked *asked, struct stack *stack, uint64_t inner) {
+/* ... of a stack that isn't among those that were met last, by its key and that of its innermost callers. If these tell the call, the stack
+   has no others any more. */
+static __attribute__((noinline)) uint32_t place_of_varied(const struct asked *asked, struct stack *stack, uint64_t whole, uint64_t inner) {
     uint32_t *met = added_slot(&stacks_of_calls, inner);
-    if (met && LOAD(met) >= (asked->is_tiny ? MOST_TINY_STACKS : MOST_STACKS))
-        take_stack(stack, asked->call, INNERMOST);
-    return counted_place(stack, met);
+    if (stack->count <= INNERMOST || !met || LOAD(met) < (asked->is_tiny ? MOST_TINY_STACKS : MOST_STACKS))
+        return counted_place(stack, whole, met);
+    stack->count = INNERMOST;
+    return counted_place(stack, inner, met);
 }
 
 /* By a place and the size of an element: the place of arrays. */
@@ -278,18 +284,20 @@ static inline uint64_t key_of_few(const uintptr_t *callers, const struct asked *
 
 /* Of a stack that wasn't met in a memo. */
 static uint32_t place_of_stack(const struct asked *asked, struct stack *stack) {
-    bool is_deep = stack->count == INNERMOST;
-    uint64_t inner = stack_key(stack), few = is_deep ? key_of_few(stack->callers, asked) : 0;
-    uint32_t place = is_deep ? place_at(met_stack(few), few) : 0;
-    if (place)
+    uint32_t count = stack->count, inner_count = count < INNERMOST ? count : INNERMOST;
+    uint64_t few = inner_count == INNERMOST ? key_of_few(stack->callers, asked) : 0;
+    uint32_t place = few ? place_at(met_stack(few), few) : 0;
+    if (place) {
+        stack->count = INNERMOST;
         return place;
-    take_stack(stack, asked->call, PIECE_FRAMES);
-    uint64_t all = stack_key(stack) ^ mixed(LOAD(&rules_epoch)) ^ mixed(asked->element);
+    }
+    uint64_t begun = longer_key(begun_key(stack), stack, 1, inner_count);
+    uint64_t inner = mixed(begun), whole = mixed(longer_key(begun, stack, inner_count, count));
+    uint64_t all = whole ^ mixed(LOAD(&rules_epoch)) ^ mixed(asked->element);
     place = place_at(met_stack(all), all);
     if (place)
         return place;
-    uint32_t count = stack->count;
-    place = place_of_varied(asked, stack, inner);
+    place = place_of_varied(asked, stack, whole, inner);
     if (asked->element)
         place = place_of_array(place, stack, asked->element);
     uint64_t key = stack->count < count ? few : all;
@@ -315,7 +323,7 @@ static __attribute__((noinline)) uint32_t place_of_followed(const struct asked *
     if (LIKELY(place))
         return place;
     struct stack stack;
-    take_stack(&stack, asked->call, INNERMOST);
+    take_stack(&stack, asked->call, PIECE_FRAMES);
     place = place_of_stack(asked, &stack);
     remember(asked, &stack, place);
     return place;
