@@ -57,7 +57,7 @@ fn traces_refused_in_reading(rt: HostRuntime) -> Result<(), Fail> {
 }
 
 // Refusals, and their lines.
-static LINES: [(Refusal<'_>, &str); 13] = [
+static LINES: [(Refusal<'_>, &str); 14] = [
     (Refusal::BadCommandLine, "lockdep: P1 BadCommandLine\n"),
     (
         Refusal::CannotOpen { file: "a b" },
