@@ -55,7 +55,7 @@ static void end_once(struct once *once) {
 static inline void found_done(uintptr_t control, struct call call) {
     if (LIKELY(!is_any_held() && !run_source()))
         return;
-    acquired(control, MODE_WRITE | RAW_DONE, KIND_RECURSIVE, call);
+    acquired(control, MODE_WRITE | RAW_DONE, KIND_ONCE, call);
     releasing(control, call);
 }
 
@@ -70,7 +70,7 @@ static inline void found_done(uintptr_t control, struct call call) {
             return REAL(name)(control, routine);                                                                       \
         }                                                                                                              \
         struct once once __attribute__((cleanup(end_once))) = {(uintptr_t)control, HERE, routine, false, midst.once};  \
-        once.is_recorded = begin_wish(once.control, MODE_WRITE, KIND_RECURSIVE, once.call);                            \
+        once.is_recorded = begin_wish(once.control, MODE_WRITE, KIND_ONCE, once.call);                                 \
         midst.once = &once;                                                                                            \
         return REAL(name)(control, run_once);                                                                          \
     }
@@ -153,7 +153,7 @@ EXPORT int __cxa_guard_acquire(guard *g) {
         found_done((uintptr_t)g, HERE);
         return real_acquire(g);
     }
-    bool is_recorded = begin_wish((uintptr_t)g, MODE_WRITE, KIND_RECURSIVE, HERE);
+    bool is_recorded = begin_wish((uintptr_t)g, MODE_WRITE, KIND_ONCE, HERE);
     int is_ours = real_acquire(g);
     if (is_recorded) {
         end_wish((uintptr_t)g, true, HERE);

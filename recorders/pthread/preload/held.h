@@ -148,7 +148,7 @@ _Static_assert((offsetof(struct thread, first_entries) + sizeof(struct entry)) %
 
 /* ---- Runs of signals' handlers. Each is a thread of its own in the recording, and what it has interrupted is kept meanwhile. */
 
-#define MOST_RUNS 8 /* that interrupt one another; what comes on top of so many counts as called there */
+#define MOST_RUNS RAW_SIGNALS /* that interrupt one another; what comes on top of so many counts as called there */
 
 struct interrupted {
     uintptr_t frame; /* of the run's function; written last, and 0 if nothing is kept here */

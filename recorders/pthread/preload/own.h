@@ -328,6 +328,7 @@ enum kind {
     KIND_RECURSIVE, /* it is the same hold, once more */
     KIND_COUNTED,   /* each time is a hold of its own */
     KIND_THREAD,    /* the same, of a thread that ends */
+    KIND_ONCE,      /* as a recursive one, of a routine that runs once: it doesn't know who runs it */
 };
 
 bool begin_inside(struct call call);
@@ -384,6 +385,7 @@ bool is_source_gone(uint32_t source);
 uint32_t state_now(uint64_t *on);               /* of this thread, as it runs now */
 uint64_t on_now(void);                          /* the signals that have a handler and are unblocked */
 void know_mask(void);
+void forget_mask(void);
 struct raw_run *run_of(uint32_t source);        /* of the runs of a source in this thread, or NULL */
 uint32_t own_system_thread(void);
 

@@ -105,8 +105,9 @@ __attribute__((noinline)) static void count_link(const char *link, char *const *
     count_path(length > 0 ? path : link, environment, by);
 }
 
-/* Counts a start; `by` is -1 if it has failed. */
+/* Counts a start; `by` is -1 if it has failed. A child of vfork may be what starts. */
 static void count_start(const char *path, char *const *environment, uint64_t by) {
+    forget_mask();
     if (!arena || !path)
         return;
     if (is_own_link(path))

@@ -143,6 +143,16 @@ void know_mask(void) {
     self.is_mask_known = true;
 }
 
+/* It is asked for again. A child of vfork has this process's memory until it becomes another program, but not its mask: what it has blocked isn't
+   blocked in its parent. */
+void forget_mask(void) {
+    self.is_mask_known = false;
+    if (!self.thread)
+        return;
+    self.thread->is_turned = true;
+    note_unsettled(self.thread);
+}
+
 uint64_t on_now(void) {
     uint64_t all = LOAD(&handled);
     if (all)

@@ -847,7 +847,7 @@ static bool is_recursion(const pthread_mutex_t *lock) {
 
 /* Whether what this thread has taken is what it holds already, once more. */
 static bool is_same_hold(uintptr_t lock, enum kind kind) {
-    return kind == KIND_RECURSIVE || (kind == KIND_MUTEX && is_recursion((const pthread_mutex_t *)lock));
+    return kind == KIND_RECURSIVE || kind == KIND_ONCE || (kind == KIND_MUTEX && is_recursion((const pthread_mutex_t *)lock));
 }
 
 /* Whether the thread can't have this hold any more, since it has taken the lock with success: only a reader may do that. */
