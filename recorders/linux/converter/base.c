@@ -31,7 +31,8 @@ void *checked(void *memory) {
     return memory;
 }
 
+/* What is small isn't mixed with what is small: two such pairs may have one sum. */
 uint64_t mix(uint64_t sum, uint64_t word) {
-    sum = (sum ^ word) * UINT64_C(0x9e3779b97f4a7c15);
+    sum = ((sum ^ word) + UINT64_C(0xd1b54a32d192ed03)) * UINT64_C(0x9e3779b97f4a7c15);
     return sum ^ sum >> 29;
 }

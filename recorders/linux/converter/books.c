@@ -40,8 +40,8 @@ void set_flag(struct task *task, enum frame irq, bool is_on) {
     level->is_on[irq] = is_on;
     bool is_new = false;
     if (is_on && !options.repeats) {
-        uint64_t held = sum_of_held(task, task->level, 0);
-        is_new = held && is_news(task, mix(held, sum_of_flags(level) | 1 << 8));
+        uint64_t none = mix(sum_of_flags(level), irq), held = sum_of_held(task, task->level, none);
+        is_new = held != none && is_news(task, held);
     }
     add_event(task, (struct event){.kind = is_on ? ON : OFF, .what = (uint8_t)irq}, is_new);
 }

@@ -26,7 +26,7 @@ uint64_t sum_of_held(const struct task *task, int from_level, uint64_t sum) {
 }
 
 uint64_t sum_of_flags(const struct level *level) {
-    return (uint64_t)level->frame << 2 | (uint64_t)level->is_on[SOFTIRQ] << 1 | level->is_on[HARDIRQ];
+    return mix(0, (uint64_t)level->frame << 2 | (uint64_t)level->is_on[SOFTIRQ] << 1 | level->is_on[HARDIRQ]);
 }
 
 uint64_t sum_of_state(const struct task *task) {
