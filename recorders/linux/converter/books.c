@@ -2,6 +2,8 @@
 #define _GNU_SOURCE
 #include "converter.h"
 
+#define NO_LOCK (UINT64_C(1) << 63) /* in a sum, in the place of a key and a mode */
+
 /* Holds a lock, and writes it. */
 void take(struct task *task, struct held held) {
     held.level = task->level;
@@ -40,7 +42,7 @@ void set_flag(struct task *task, enum frame irq, bool is_on) {
     level->is_on[irq] = is_on;
     bool is_new = false;
     if (is_on && !options.repeats) {
-        uint64_t none = mix(sum_of_flags(level), irq), held = sum_of_held(task, task->level, none);
+        uint64_t none = mix(sum_of_flags(level), NO_LOCK | irq), held = sum_of_held(task, task->level, none);
         is_new = held != none && is_news(task, held);
     }
     add_event(task, (struct event){.kind = is_on ? ON : OFF, .what = (uint8_t)irq}, is_new);
