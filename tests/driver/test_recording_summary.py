@@ -52,6 +52,8 @@ class Texts(unittest.TestCase):
 
     def test_a_path_that_ends_with_a_number_is_no_count(self):
         self.assertEqual(Summary(summary.parse("processes 1\nloaded /tmp/App 2\n")).after("loaded"), ["/tmp/App 2"])
+        reason = "118 keys were left out: `lockdep check --many` takes 8192"
+        self.assertEqual(Summary(summary.parse("traces 1\nincomplete %s\n" % reason)).after("incomplete"), [reason])
 
     def test_words_of_an_earlier_version(self):
         earlier = Summary(summary.parse("processes 1\ncalls seen 9\nleft out: acquisitions beyond 48 held locks 3\nrepeats left out 4\nobjects 8\n"))

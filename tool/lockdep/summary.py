@@ -6,7 +6,7 @@ import os
 from . import losses
 
 VERSION = 1  # of summary.json
-OF_PATHS = "loaded "  # begins a line with the path of a file, which may end with a number
+UNCOUNTED = ("loaded ", "incomplete ")  # begin lines with the path of a file, or with a reason, which may end with a number
 NOTED = ("waiting", "held-at-end") + losses.BREACHES  # whose lines are notes from the first one on
 
 
@@ -103,7 +103,7 @@ def parse(text: str) -> list[Count]:
         if line.startswith("  ") and counts:
             add_line(counts[-1], line[2:])
         elif line and not line.startswith(" "):
-            is_number = bool(name) and number.isdigit() and not line.startswith(OF_PATHS)
+            is_number = bool(name) and number.isdigit() and not line.startswith(UNCOUNTED)
             counts.append(Count(name, int(number)) if is_number else Count(line, None))
     return counts
 
