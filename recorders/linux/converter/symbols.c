@@ -55,7 +55,7 @@ static void note_load(char *line) {
         loads[load_of(line)].until = strtoull(number, NULL, 10);
 }
 
-/* The load of a symbol of the module that stands behind its name in brackets. */
+/* Which load of its module a symbol is of. The module's name follows the symbol's, in brackets. */
 static int load_of_symbol(char *module) {
     module[strcspn(module, "]")] = 0;
     int load = load_of(module);

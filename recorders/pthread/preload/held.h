@@ -33,7 +33,8 @@ struct links {
     uint32_t what[READERS];
 };
 
-/* The last time that a lock was taken on top of so many others, while these are held. */
+/* The last time that a lock was taken on top of so many others. It counts only while these are held, which is_back finds out: one that is older
+   than the newest of them is of an earlier time. */
 struct level {
     uint64_t start; /* how many records there were before it; NO_LEVEL: none was taken yet */
     uint64_t hash;  /* of the locks that were held then */
@@ -143,8 +144,11 @@ struct thread {
     } places[PLACES]; /* of callers that it met last */
     struct entry first_entries[1 + FIRST_HELD + 1]; /* the one before the first is of no lock, and the last one has a level alone */
 };
+
+#ifdef __x86_64__
 /* What is written when the first lock is taken lies in one line of the processor's. */
 _Static_assert((offsetof(struct thread, first_entries) + sizeof(struct entry)) % 64 == 0, "the first lock's entry begins a line");
+#endif
 
 /* ---- Runs of signals' handlers. Each is a thread of its own in the recording, and what it has interrupted is kept meanwhile. */
 
