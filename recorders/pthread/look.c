@@ -199,7 +199,7 @@ static void say(bool is_so, const char *word) {
 static bool is_go(const struct file *file) { return has(file, "\xff Go buildinf:"); }
 
 static bool is_python(const struct symbols *symbols) {
-    return names_any(symbols, "libpython") || names_any(symbols, "Py_BytesMain");
+    return names_any(symbols, "libpython") || names_any(symbols, "libpypy") || names_any(symbols, "Py_BytesMain");
 }
 
 static bool is_java(const struct symbols *symbols) { return names_any(symbols, "libjvm") || names_any(symbols, "libjli"); }

@@ -142,9 +142,9 @@ struct raw_look {
     unsigned char stack[RAW_LOOK_STACK];
 };
 
-/* What a lock knows of who has it: a mutex its owner, if it is recursive or checked for errors, and a read-write lock its writer. It knows that a
-   moment after it is taken, and not any more a moment before it is released. */
-enum raw_knows { KNOWS_NOTHING, KNOWS_OWNER, KNOWS_WRITER };
+/* What a lock that a handler takes knows of who has it: a mutex its owner, if it is recursive or checked for errors, and a read-write lock its
+   writer. It knows that a moment after it is taken, and not any more a moment before it is released. IS_OTHER: it is neither of these. */
+enum raw_knows { KNOWS_NOTHING, KNOWS_OWNER, KNOWS_WRITER, IS_OTHER };
 
 struct raw_object {
     uint32_t class;   /* written last */
@@ -237,7 +237,8 @@ struct raw_run {
     uint32_t system_thread; /* as in raw_thread */
     uint32_t start;         /* as in raw_thread */
     uint64_t count;
-    uint32_t sent; /* of enum raw_sent: to whom */
+    uint64_t calls; /* so many acquisitions and releases of the thread's own code were seen when the first one came */
+    uint32_t sent;  /* of enum raw_sent: to whom */
 };
 
 /* Which sources may interrupt: those of signals that are unblocked and have a handler. */
@@ -276,6 +277,7 @@ struct raw_thread {
     uint32_t source; /* of whose runs in a thread this is; 0: of the thread's own code */
     uint32_t system_thread; /* by which number the thread's own code and its runs belong together */
     uint32_t start;         /* the class as which the thread is joined; 0 if that isn't known */
+    uint32_t is_of_parent;  /* of a run: it began in the process that forked this one, and its locks may be held by what it interrupted there */
     char name[RAW_CALLED];
     uint64_t chunks[RAW_CHUNKS]; /* where they begin in the file; 0 if there is none yet */
 };

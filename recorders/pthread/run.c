@@ -272,6 +272,72 @@ static void reap(struct run *run) {
     }
 }
 
+/* ---- Signals that the command sends to its parent, which this process is: they go to this one's parent, as if it weren't there. */
+
+static const int never_awaited[] = {SIGKILL, SIGSTOP, SIGCHLD, SIGCONT, SIGTSTP, SIGTTIN, SIGTTOU, SIGURG, SIGWINCH, SIGSEGV, SIGBUS, SIGILL, SIGFPE};
+
+static bool is_among(int signal_number, const int *numbers, size_t count) {
+    for (size_t i = 0; i < count; i++)
+        if (numbers[i] == signal_number)
+            return true;
+    return false;
+}
+
+static bool is_passed_on(int signal_number) { return is_among(signal_number, passed_on, PASSED_ON); }
+
+static bool is_awaited(int signal_number) {
+    bool is_of_threads = signal_number >= __SIGRTMIN && signal_number < SIGRTMIN; /* the C library keeps these for itself */
+    return !is_of_threads && !is_among(signal_number, never_awaited, sizeof never_awaited / sizeof *never_awaited);
+}
+
+static pid_t parent_of(pid_t process) {
+    char path[64], line[256];
+    int parent = 0;
+    snprintf(path, sizeof path, "/proc/%d/status", (int)process);
+    FILE *file = process > 0 ? fopen(path, "r") : NULL;
+    while (file && fgets(line, sizeof line, file))
+        if (sscanf(line, "PPid: %d", &parent) == 1)
+            break;
+    if (file)
+        fclose(file);
+    return parent;
+}
+
+#define MOST_GENERATIONS 64
+
+/* Which child of this process has sent a signal, or has started who did; 0 if it is from elsewhere. The command may have ended since. */
+static pid_t child_that_sent(const siginfo_t *info, pid_t command) {
+    pid_t sender = info->si_code <= 0 ? info->si_pid : 0;
+    for (int i = 0; i < MOST_GENERATIONS && sender > 1 && sender != getpid(); i++) {
+        pid_t parent = sender == command ? getpid() : parent_of(sender);
+        if (parent == getpid())
+            return sender;
+        sender = parent;
+    }
+    return 0;
+}
+
+/* (another child was left to this process, whose parent wouldn't be this one's) */
+static void send_to_parent(const siginfo_t *info, bool is_from_command) {
+    pid_t parent = getppid();
+    if (parent <= 0 || !is_from_command)
+        return;
+    if (info->si_code == SI_QUEUE)
+        sigqueue(parent, info->si_signo, info->si_value);
+    else
+        kill(parent, info->si_signo);
+}
+
+/* What it would have done if it weren't awaited. */
+static void heed(int signal_number) {
+    sigset_t alike;
+    sigemptyset(&alike);
+    sigaddset(&alike, signal_number);
+    raise(signal_number);
+    sigprocmask(SIG_UNBLOCK, &alike, NULL);
+    sigprocmask(SIG_BLOCK, &alike, NULL);
+}
+
 /* A signal of the terminal's goes to its whole foreground group, and others may: the command has it already if it is in this one's. But a
    terminal that hangs up sends SIGHUP to the leader of its session alone. */
 static bool has_it_already(struct run *run, const siginfo_t *info) {
@@ -283,6 +349,16 @@ static bool has_it_already(struct run *run, const siginfo_t *info) {
 /* What this process was started to ignore is passed on too, since the command may have chosen to heed it. But it doesn't end the
    recording. */
 static void pass_on(struct run *run, const siginfo_t *info) {
+    pid_t child = child_that_sent(info, run->command);
+    if (child) {
+        if (!is_to_group(&run->witness, info->si_signo))
+            send_to_parent(info, child == run->command);
+        return;
+    }
+    if (!is_passed_on(info->si_signo)) {
+        heed(info->si_signo);
+        return;
+    }
     if (!run->has_ended) {
         if (!has_it_already(run, info))
             kill(run->command, info->si_signo);
@@ -318,7 +394,12 @@ static void step(struct run *run, const sigset_t *awaited) {
 static int end(const struct run *run, const char *record, const char *folder, bool is_left) {
     for (size_t i = 0; i < PASSED_ON; i++)
         signal(passed_on[i], SIG_IGN);
-    sigset_t none;
+    sigset_t none, others;
+    struct timespec at_once = {0, 0};
+    siginfo_t info;
+    sigfillset(&others);
+    while (sigtimedwait(&others, &info, &at_once) > 0)
+        send_to_parent(&info, child_that_sent(&info, run->command) == run->command);
     sigemptyset(&none);
     sigprocmask(SIG_SETMASK, &none, NULL);
     char status[16];
@@ -333,9 +414,11 @@ static void await_signals(sigset_t *awaited, sigset_t *ignored) {
     sigemptyset(awaited);
     sigemptyset(ignored);
     sigaddset(awaited, SIGCHLD);
+    for (int number = 1; number <= SIGRTMAX; number++)
+        if (is_awaited(number))
+            sigaddset(awaited, number);
     for (size_t i = 0; i < PASSED_ON; i++) {
         struct sigaction action;
-        sigaddset(awaited, passed_on[i]);
         if (sigaction(passed_on[i], NULL, &action) == 0 && action.sa_handler == SIG_IGN)
             sigaddset(ignored, passed_on[i]);
     }

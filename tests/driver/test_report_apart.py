@@ -89,6 +89,35 @@ class ThreadsApart(OfARecording):
         self.assertIsNone(self.apart(self.IN_TURN + ", M starts 3", (2, 3), (1, 2)))
         self.assertEqual(self.apart(self.IN_TURN + ", M starts 3", (1, 2), (1, 3)), ("task-0001", "task-0003"))
 
+    def inversion_by(self, lives, order_by=1, enabled_by=2, used_by=3):
+        """The first thread takes k1 with k0 held, the second holds k1 where the handler comes in, which was seen to take k0 in the third."""
+        self.found(lives)
+        for number in (1, 2, 3):
+            self.write_in_set(number)
+        use = {"record": 2, "takes": "w"}
+        one = order("k0/0", "EN", "k1/0", self.trace_of_set(order_by))
+        return finding({"type": "inversion", "irq": "hardirq", "keys": ["k0/0", "k1/0"], "lines": ["inversion hardirq k0/0 k1/0"], "orders": [one],
+                        "used": dict(use, file=self.trace_of_set(used_by)), "enabled": dict(use, file=self.trace_of_set(enabled_by)),
+                        "between": between("classes")})
+
+    def trace_of_set(self, number):
+        return self.path("signals/1/task-%04d.csv" % number)
+
+    def write_in_set(self, number):
+        os.makedirs(self.path("signals/1"), exist_ok=True)
+        self.write("signals/1/task-%04d.csv" % number, "on,hardirq" + "x" * number)
+
+    def test_the_threads_of_an_inversion_are_those_of_its_orders_and_that_in_which_the_handler_comes(self):
+        self.assertEqual(threads_apart(self.inversion_by(self.IN_TURN), self.recorded), self.PAIR)
+        self.assertIsNone(threads_apart(self.inversion_by("M starts 1, M starts 2, M joins 1"), self.recorded))
+        self.assertIsNone(threads_apart(self.inversion_by(self.IN_TURN + ", M starts 3", 1, 1), self.recorded))
+        self.assertIsNone(threads_apart(self.inversion_by("M starts 1, M starts 3, M joins 1, M starts 2", 1, 3, 2), self.recorded))
+
+    def test_all_threads_whose_own_traces_say_the_same_as_one_of_an_inversion_have_to_be_apart(self):
+        self.write("objects/task-0003.csv", "x")
+        self.assertIsNone(threads_apart(self.inversion_by(self.IN_TURN + ", M starts 3"), self.recorded))
+        self.assertEqual(threads_apart(self.inversion_by("M starts 3, M joins 3, " + self.IN_TURN), self.recorded), self.PAIR)
+
     def test_an_endless_recording_says_nothing(self):
         with mock.patch.object(apart, "MOST_STEPS", 2):
             self.assertIsNone(self.apart(self.IN_TURN))

@@ -214,7 +214,7 @@ class Told(OfHandlers):
                     [("enter,hardirq", ""), ("acq,libc:malloc,0,w", "strdup.c:42 strdup < server.c:12 stop"), ("rel,libc:malloc,0", ""), ("leave", "")])
         self.assertEqual(self.confirmed()[1], """findings 1
 
-double SIGTERM: libc:malloc/0
+double SIGTERM:server+10 libc:malloc/0
   the handler for SIGTERM at server+10 calls malloc, free or the like: strdup at strdup.c:42 < stop at server.c:12
   called with SIGTERM unblocked: insert at server.c:41
   if SIGTERM comes in during such a call, the handler waits for ever, or the heap is damaged
@@ -549,15 +549,23 @@ inversion SIGALRM:on_alarm stats/0 pool/0
         self.assertEqual(self.sorted(text).new, [])
         self.assertEqual(list_of(findings, text, sources_of(findings, [self.folder])), text)
 
+    def test_a_handler_without_a_symbol_is_named_by_its_place(self):
+        self.handlers(dict(USR1, handler=None, module="/srv/my server", offset="0x40c0"))
+        self.set_of(1, TABLE, IN_USR1)
+        self.assertEqual([finding.head for finding in self.findings()], ["double SIGUSR1:my_server+40c0 table/0"])
+        self.assertEqual(self.known("double SIGUSR1:my_server+40c0 table/0\n"), ["double SIGUSR1:my_server+40c0 table/0"])
+        self.handlers(dict(USR1, handler=None, module=None, offset="0x0"))
+        self.assertEqual([finding.head for finding in self.findings()], ["double SIGUSR1: table/0"])
+
     def test_two_handlers_with_one_line_have_it_twice(self):
-        one, two = (dict(USR1, number=number, handler=None, offset="0x%d0" % number) for number in (1, 2))
+        one, two = (dict(USR1, number=number, offset="0x%d0" % number) for number in (1, 2))  # (static functions of two files)
         self.handlers(one, two)
         self.set_of(1, TABLE, IN_USR1)
         self.set_of(2, TABLE, IN_USR1)
-        line = "double SIGUSR1: table/0\n"
+        line = "double SIGUSR1:on_usr1 table/0\n"
         once = self.sorted(line)
         self.assertEqual((len(once.new), len(once.known)), (2, 0))
-        self.assertEqual(once.stale, ["line 1, `double SIGUSR1: table/0`: 2 handlers have this line, and the list has it once, so that entry hides "
+        self.assertEqual(once.stale, ["line 1, `double SIGUSR1:on_usr1 table/0`: 2 handlers have this line, and the list has it once, so that entry hides "
                                       "nothing; --write-known writes it again"])
         twice = self.sorted(line + line)
         self.assertEqual((len(twice.new), len(twice.known), twice.stale), (0, 2, []))

@@ -6,7 +6,7 @@ import functools
 import itertools
 import os
 
-from .findings import Finding, Order
+from .findings import Event, Finding
 from .folder import LIVES, OBJECTS, is_in_signals
 
 TYPE_CHECKING = False
@@ -72,6 +72,11 @@ def thread_of(trace: str) -> str:
     return os.path.splitext(os.path.basename(trace))[0]
 
 
+def own_trace(trace: str) -> str:
+    """The thread's own trace of single locks in the place of that in the set of a signal's handler."""
+    return os.path.join(folder_of(trace), OBJECTS, os.path.basename(trace)) if is_in_signals(os.path.dirname(trace)) else trace
+
+
 @functools.lru_cache(maxsize=None)
 def in_turn(one: str, other: str, recorded: Recorded) -> tuple[str, str] | None:
     """The threads of two traces, the first of which was joined before the other was started, if all traces that say the same as one of them are
@@ -80,22 +85,31 @@ def in_turn(one: str, other: str, recorded: Recorded) -> tuple[str, str] | None:
     pair = lives.in_turn(thread_of(one), thread_of(other)) if folder_of(one) == folder_of(other) else None
     if not pair:
         return None
-    both = itertools.product(recorded.alike(one), recorded.alike(other))
+    both = itertools.product(recorded.alike(own_trace(one)), recorded.alike(own_trace(other)))
     return pair if all(lives.in_turn(thread_of(each), thread_of(another)) for each, another in both) else None
 
 
-def pair_of(orders: list[Order], recorded: Recorded) -> tuple[str, str] | None:
-    """The first two of the threads that take the locks in these orders which never ran at the same time."""
-    traces = dict.fromkeys(order.event.file for order in orders if order.event)
+def events_of(finding: Finding) -> list[Event]:
+    """Where threads hold locks of a finding at once: in each order, and where a handler comes in, which then waits in that thread. A run of a handler
+    is in no thread that has to be another one: nothing is known of its trace."""
+    uses = [finding.enabled.event] if finding.type == "inversion" else []
+    return [event for event in [order.event for order in finding.orders] + uses if event]
+
+
+def pair_of(finding: Finding, recorded: Recorded) -> tuple[str, str] | None:
+    """The first two of the threads of a finding which never ran at the same time."""
+    traces = dict.fromkeys(event.file for event in events_of(finding))
     pairs = (in_turn(one, other, recorded) for one, other in itertools.combinations(traces, 2))
     return next((pair for pair in pairs if pair), None)
 
 
 def threads_apart(finding: Finding, recorded: Recorded) -> tuple[str, str] | None:
-    """Two threads of a cycle, one of which was joined before the other was started; None if it has none. If it was seen between single locks too,
-    that has to be so of the threads of these, and these are told."""
+    """Two threads of a cycle or an inversion, one of which was joined before the other was started; None if it has none. If it was seen between single
+    locks too, that has to be so of the threads of these, and these are told."""
     inner = finding.between.finding if finding.between else None
-    pairs = [pair_of(part.orders, recorded) if part.type == "circle" else None for part in (finding, inner) if part]
+    if not recorded.is_one:
+        return None
+    pairs = [pair_of(part, recorded) for part in (finding, inner) if part]
     return pairs[-1] if all(pairs) else None
 
 

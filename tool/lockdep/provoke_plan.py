@@ -18,7 +18,7 @@ from .signal_links import as_reported, records_of_marks
 from .signals import THREADS, Handler
 from .symbols import Address
 from .verdict import type_of_key
-from .words import class_of_lock, name_in, text_of
+from .words import class_of_lock, is_of_library, name_in, plain_key, text_of
 
 MOST_PLACES = 64  # of an order, each
 ELF = b"\x7fELF"
@@ -105,7 +105,17 @@ def why_not_by_signal(finding: Finding) -> str:
         return "no signals are sent to programs in Python"
     if handler.offset is None or not number_of_signal(handler.signal):
         return "the address of the handler for %s isn't known" % handler.signal
-    return ""
+    return why_not_watched(finding, handler)
+
+
+def why_not_watched(finding: Finding, handler: Handler) -> str:
+    """Whether a lock is one that isn't watched in a run: then nobody would be seen to come to it."""
+    inside = [key for key in finding.keys if is_of_library(key)]
+    if inside:
+        return "%s is a lock inside the C library, and none of these is watched" % plain_key(inside[0])
+    inner = finding.between.finding if finding.between else None
+    others = [key for key, single in zip(finding.keys, (inner or finding).keys) if handler.is_other(key) or handler.is_other(single)]
+    return "%s is neither a mutex nor a read-write lock, and no others are watched" % plain_key(others[0]) if others else ""
 
 
 def is_elf(program: str) -> bool:

@@ -21,6 +21,10 @@ from .saying import write_error
 from .symbols import Address
 from .words import class_of_lock, counted, name_in, plain_key
 
+TYPE_CHECKING = False
+if TYPE_CHECKING:
+    from .signals import Handler
+
 HAPPENED, NOT_HAPPENED, NOTHING_TRIED = 1, 0, 2
 DEFAULT_RUNS = "10"
 OF_THE_SYSTEM = ("libc.so", "libpthread.so", "ld-linux")  # modules whose functions begin each thread
@@ -188,9 +192,17 @@ def why_not(table: Table, plan: list[PlannedOrder]) -> str:
         first = plan[alone[0] - 1]
         return never_came(alone[0], plan) + (" in a thread that held %s" % classes_of(first)[0] if first.handler else " with the first one held")
     if len(plan) == 1 and plan[0].handler:
-        return "the handler for %s waited for %s %s, and went on each time" % (
-            plan[0].handler.signal, classes_of(plan[0])[1], counted(counts[1].under, "time"))
+        return went_on_words(plan[0].handler, plan[0], counted(counts[1].under, "time"))
     return "its orders were never under way at once (they were reached %s times)" % " and ".join(str(count.under) for count in counts.values())
+
+
+def went_on_words(handler: Handler, planned: PlannedOrder, times: str) -> str:
+    """That a handler didn't wait for ever for the lock that its thread held. No signal is sent at the moment in which a lock doesn't know its owner."""
+    lock = classes_of(planned)[1]
+    if handler.is_narrow(planned.order.end):
+        return ("the handler for %s came to %s %s in a thread that held it, and didn't wait: %s knows its owner, but for narrow moments, in which no "
+                "signal is sent") % (handler.signal, lock, times, lock)
+    return "the handler for %s waited for %s %s, and went on each time" % (handler.signal, lock, times)
 
 
 def never_came(order: int, plan: list[PlannedOrder]) -> str:

@@ -23,6 +23,9 @@ EDEADLK = "a thread that holds %s for writing gets EDEADLK of glibc when it asks
 QUEUED = "a reader of %s waits behind a waiting writer, so the handler waits if another thread waits to write"
 ONE_THREAD = "  one thread is enough: it holds {0} when {1} comes in, and the handler takes {2} and then waits for {0}"
 ONLY_A_FLAG = "let the handler only set a flag or write to a pipe"
+# Of Python, where a signal that the main thread has blocked may come to another thread: its handler runs in the main thread all the same.
+IN_MAIN_THREAD = "the main thread runs the handler of %s between two bytecode instructions, whichever thread gets the signal"
+ONLY_A_VARIABLE = "let the handler only set a variable or put something into a queue.SimpleQueue, or try %s with acquire(blocking=False)"
 
 
 def calls_of(key: str) -> str:
@@ -112,11 +115,12 @@ def occurrence_lines(finding: Finding, handler: Handler, sources: Sources) -> li
 
 def end_lines(finding: Finding) -> list[Line]:
     """How it ends in a deadlock."""
-    signal, key = finding.state, finding.keys[0]
+    signal, key, is_in_main = finding.state, finding.keys[0], finding.handler is not None and finding.handler.is_in_one_thread
     if finding.type == "double" and is_of_library(key):
         return [Line("  if %s comes in during such a call, the handler waits for ever%s" % (signal, DAMAGED.get(name_in(key)[len(LIBRARY):], "")))]
     if finding.type == "double":
-        return [Line("  if %s comes in while a thread holds %s there, the handler waits for the thread that it interrupted" % (signal, plain_key(key)))]
+        who, awaited = ("the main thread", "what") if is_in_main else ("a thread", "the thread that")
+        return [Line("  if %s comes in while %s holds %s there, the handler waits for %s it interrupted" % (signal, who, plain_key(key), awaited))]
     threads = ["thread 1 holds %s" % plain_key(finding.keys[-1])] + task_words(finding, plain_key)
     lines = [Line("  " + ", ".join(threads)), Line("  %s comes in at thread 1, and its handler waits for %s" % (signal, plain_key(key)))]
     return lines + ([Line(ONE_THREAD.format(plain_key(finding.keys[-1]), signal, plain_key(key)))] if is_order_of_handler(finding) else [])
@@ -132,7 +136,7 @@ def remarks_of_signal(finding: Finding, handler: Handler) -> list[str]:
     signal = finding.state
     to = "single threads alone: only these, and threads that run the same function, count" if handler.sent_to == THREADS else \
         "the process: any thread may get it"
-    remarks = ["%s was sent to %s" % (signal, to)]
+    remarks = [IN_MAIN_THREAD % signal if handler.is_in_one_thread else "%s was sent to %s" % (signal, to)]
     if finding.is_narrow:
         remarks.append("in a narrow moment: %s knows its owner, so the handler waits only if %s comes in %s" % (
             plain_key(finding.keys[0]), signal, NARROW.format("owner")))
@@ -152,11 +156,16 @@ def remarks_of_rwlock(finding: Finding, handler: Handler) -> list[str]:
 def mending_words(finding: Finding) -> str:
     """What can be done: about the code that the handler interrupts, about the order, and in any case about the handler."""
     first, last = plain_key(finding.keys[0]), plain_key(finding.keys[-1])
-    is_opened = finding.enabled.event is not None and finding.enabled.takes is None
-    way = "keep %s blocked until %s is released" if is_opened else "block %s around %s"
-    ways = [] if is_of_library(finding.keys[-1]) else [way % (finding.state, last)]
-    by_signals = ["block %s around %s" % (order.signal, plain_key(order.start)) for order in finding.orders if order.signal]
-    if len(finding.orders) == 1 and ways and first != last and not by_signals:
+    is_in_main = finding.handler is not None and finding.handler.is_in_one_thread
+    ways = [] if is_in_main or is_of_library(finding.keys[-1]) else [blocking_words(finding, last)]
+    by_signals = [] if is_in_main else ["block %s around %s" % (order.signal, plain_key(order.start)) for order in finding.orders if order.signal]
+    if len(finding.orders) == 1 and (ways or is_in_main) and first != last and not finding.orders[0].signal:
         ways.append("don't take %s under %s" % (last, first))
     ways += by_signals
-    return ", ".join(ways + ["or " + ONLY_A_FLAG]) if ways else ONLY_A_FLAG
+    of_handler = ONLY_A_VARIABLE % first if is_in_main else ONLY_A_FLAG
+    return ", ".join(ways + ["or " + of_handler]) if ways else of_handler
+
+
+def blocking_words(finding: Finding, lock: str) -> str:
+    is_opened = finding.enabled.event is not None and finding.enabled.takes is None
+    return ("keep %s blocked until %s is released" if is_opened else "block %s around %s") % (finding.state, lock)

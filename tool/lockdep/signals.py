@@ -38,7 +38,7 @@ MOST_AT_ONCE = 64
 class Handler:
     """A handler of a signal: its symbol, if it has one, and where it begins; and of one that took a lock the number of its set of traces, how often it
     ran, how many locks it took, to what the signal was sent, the locks that know their owner, for which it waits only in a narrow moment, the read-write
-    locks, and those of them that it only takes as a reader who queues behind waiting writers."""
+    locks, those of them that it only takes as a reader who queues behind waiting writers, and the locks that are neither these nor mutexes."""
 
     signal: str
     name: str = ""
@@ -53,13 +53,20 @@ class Handler:
     narrow: tuple[str, ...] = ()
     rwlocks: tuple[str, ...] = ()
     queued: tuple[str, ...] = ()
+    others: tuple[str, ...] = ()
+    is_late: bool = False  # whether each thread that got it had taken its last lock by then
     is_in_one_thread: bool = False  # whether it runs in one thread of a process alone, as all handlers of Python
+
+    @property
+    def address(self) -> str:
+        """Where it is in its file, such as `server+40`; empty if that isn't known."""
+        return "%s+%x" % (os.path.basename(self.module), self.offset) if self.module and self.offset is not None else ""
 
     @property
     def state(self) -> str:
         """What lines of findings have in the place of a state of interrupts. It has no space and nothing invisible, and nothing that another build
-        changes."""
-        return "%s:%s" % (self.signal, "".join("_" if letter.isspace() or is_hidden(letter) else letter for letter in self.name))
+        changes, unless the handler has no symbol."""
+        return "%s:%s" % (self.signal, "".join("_" if letter.isspace() or is_hidden(letter) else letter for letter in self.name or self.address))
 
     @property
     def place(self) -> Address | None:
@@ -77,6 +84,9 @@ class Handler:
         """Whether it takes a lock as a reader who waits behind a waiting writer. In its set it takes that as a writer."""
         return is_among(key, self.queued)
 
+    def is_other(self, key: str) -> bool:
+        return is_among(key, self.others)
+
     def want(self, symbols: Symbols) -> None:
         """Gathers where it is, unless the recording says that."""
         if self.place and not (self.file and self.line):
@@ -84,14 +94,13 @@ class Handler:
 
     def frame(self, symbols: Symbols) -> Frame:
         """Where it is, as far as that is known."""
-        address = "%s+%x" % (os.path.basename(self.module), self.offset) if self.module and self.offset is not None else ""
         if self.file and self.line:
-            return Frame(self.name, self.file, self.line, address)
+            return Frame(self.name, self.file, self.line, self.address)
         found = symbols.frames(self.place)[-1:] if self.place else []
         if not found:
-            return Frame(self.name, "", 0, address)
+            return Frame(self.name, "", 0, self.address)
         is_mangled = self.name.startswith("_Z") and found[0].function
-        return replace(found[0], function=self.name if self.name and not is_mangled else found[0].function, address=address)
+        return replace(found[0], function=self.name if self.name and not is_mangled else found[0].function, address=self.address)
 
 
 def is_among(key: str, names: tuple[str, ...]) -> bool:
@@ -143,7 +152,8 @@ def handler_of(said: dict) -> Handler:
         raise ValueError("sent to %s" % sent_to)
     return Handler(signal, text_of(said, "handler"), text_of(said, "module"), offset_of(said), text_of(said, "file"), number_of(said, "line"),
                    number_of(said, "number"), number_of(said, "runs"), number_of(said, "takes"), sent_to, names_of(said, "narrow"),
-                   names_of(said, "rwlocks"), names_of(said, "queued"), said.get("one_thread") is True)
+                   names_of(said, "rwlocks"), names_of(said, "queued"), names_of(said, "others"),
+                   said.get("late") is True, said.get("one_thread") is True)
 
 
 def handlers_in(folder: str, name: str) -> list[Handler]:

@@ -31,6 +31,7 @@ BETWEEN_LOCKS = {
     Kind.EITHER: "seen only by timed waits or while a lock was new",
     Kind.NEW: "seen only while a lock was new",
 }
+LATE = "seen only when the signal's thread had taken its last lock"
 HAPPENED = "happened in run %d of `lockdep provoke`"
 TOO_MANY = "more than 256 keys lead to one another"
 WITH_DEPTH = (Kind.PERHAPS, Kind.UNKNOWN, Kind.CLASSES, Kind.TYPES)
@@ -44,6 +45,8 @@ def type_of_key(key: str) -> str:
 
 class Recorded:
     """What a recording says that the checker wasn't asked: how many threads a trace stands for, and how many locks a type has."""
+
+    is_one = True  # all traces are of one recording
 
     def __init__(self, traces: list[str], summary: str = "") -> None:
         self.traces = traces
@@ -79,6 +82,14 @@ class Recorded:
         pairs = {(order.start, order.end) for order in inner.orders}
         return len(numbers) == 1 and None not in numbers and not any(
             number_of(trace) not in numbers and has_order(trace, pairs) for trace in self.traces)
+
+    def who_words(self, inner: Finding) -> str:
+        """What is said of who did what was seen between single locks."""
+        return ", " + thread_words(inner, self)
+
+    def seen_in(self, finding: Finding) -> list[str]:
+        """In which recordings the parts of a finding are, if there are several."""
+        return []
 
     def is_kernels(self) -> bool:
         if self.is_of_kernel is None:
@@ -168,9 +179,9 @@ def seen_words(finding: Finding, inner: Finding, recorded: Recorded) -> str:
     if inner.type != "circle":
         return words
     if len(keys) == 1 and not stands_for_several(name_in(keys[0])):
-        return "%s under itself, %s" % (words, thread_words(inner, recorded))
+        return "%s under itself%s" % (words, recorded.who_words(inner))
     gate = gate_of_all(inner)
-    return "%s, %s" % (words, "under " + plain_key(gate.key) if gate else thread_words(inner, recorded))
+    return words + (", under " + plain_key(gate.key) if gate else recorded.who_words(inner))
 
 
 def is_kept_apart(inner: Finding) -> bool:
@@ -204,9 +215,9 @@ def verdict_of(finding: Finding, recorded: Recorded) -> str:
 
 
 def words_seen(finding: Finding, recorded: Recorded) -> str:
-    """What a finding was seen between; empty if nothing was asked."""
+    """What a finding was seen between; empty if nothing was asked, or if the traces are of a kernel, whose names tell no single locks apart."""
     between = finding.between
-    if not between:
+    if not between or recorded.is_kernels():
         return ""
     inner = between.finding
     if between.kind in ONLY:
@@ -214,7 +225,8 @@ def words_seen(finding: Finding, recorded: Recorded) -> str:
     elif between.kind is Kind.UNKNOWN or not inner:
         words = unknown_words(between.reason)
     elif between.kind in BETWEEN_LOCKS:
-        words = "%s: %s" % (BETWEEN_LOCKS[between.kind], seen_words(finding, inner, recorded))
+        is_late = between.kind is Kind.ENDED and finding.handler is not None and finding.handler.is_late
+        words = "%s: %s" % (LATE if is_late else BETWEEN_LOCKS[between.kind], seen_words(finding, inner, recorded))
     else:
         several = [plain_key(key) for key in locks_of(finding, inner) if stands_for_several(name_in(key))]
         words = "perhaps seen between locks: %s; %s is several locks" % (
@@ -259,4 +271,5 @@ def said_of(finding: Finding, recorded: Recorded) -> list[str]:
         from .signal_text import remarks_of_signal
         of_signal = remarks_of_signal(finding, finding.handler)
     of_kernel = [kernels.words_of(finding)] if recorded.is_kernels() else []
-    return of_signal + of_kernel + [words for words in (apart_words(finding, recorded), verdict_of(finding, recorded)) if words]
+    said = recorded.seen_in(finding) + [apart_words(finding, recorded), verdict_of(finding, recorded)]
+    return of_signal + of_kernel + [words for words in said if words]

@@ -13,7 +13,7 @@ from .checker import REFUSED, ask
 from .files import contents, write_in_place
 from .findings import Finding, Kind, findings_of, report_lines
 from .folder import WEAK
-from .words import bytes_of, text_of
+from .words import bytes_of, is_of_library, text_of
 
 WITH_TRIES = b"lockdep,2"  # the header of a trace that may have tries
 WAYS = (Kind.TIMED, Kind.NEW, Kind.ENDED)  # in which an acquisition is weak
@@ -93,10 +93,16 @@ def gone_without(findings: list[Finding], left: set[str]) -> list[Finding]:
     return gone
 
 
+def may_be(kind: Kind, finding: Finding) -> bool:
+    """Whether a finding that is seen between locks may get this verdict. Of a lock inside the C library a thread's first use is known, and not its
+    last one: a signal isn't known to come after that."""
+    return Kind.ENDED not in MIXED.get(kind, (kind,)) or finding.type == "circle" or not is_of_library(finding.keys[-1])
+
+
 def weaken(findings: list[Finding], folder: str, traces: list[str], room: str) -> None:
     """Gives those findings their own verdicts. The room is an empty folder."""
     for kind, records in by_verdict(weak_in(folder)).items():
-        seen = [finding for finding in findings if finding.between and finding.between.kind is Kind.LOCKS]
+        seen = [finding for finding in findings if finding.between and finding.between.kind is Kind.LOCKS and may_be(kind, finding)]
         left = lines_left(written_again(traces, records, room)) if seen and records else None
         for finding in gone_without(seen, left) if left is not None else ():
             finding.between.kind = kind

@@ -157,10 +157,18 @@ static bool is_own_module(const struct module *m) {
     return false;
 }
 
+static bool is_python_module(const char *base) {
+    static const char *const names[] = {"libpython", "python", "libpypy", "pypy"};
+    for (size_t i = 0; i < sizeof names / sizeof *names; i++)
+        if (strncmp(base, names[i], strlen(names[i])) == 0)
+            return true;
+    return false;
+}
+
 static void tell_unseen(FILE *file) {
     bool is_python = false, is_java = false, is_go = false, is_rust = false, takes_locks = false;
     for (size_t i = 0; i < module_count; i++) {
-        is_python |= strncmp(modules[i].base, "libpython", 9) == 0 || strncmp(modules[i].base, "python", 6) == 0;
+        is_python |= is_python_module(modules[i].base);
         is_java |= strcmp(modules[i].base, "libjvm.so") == 0;
         is_go |= modules[i].is_go;
         is_rust |= modules[i].is_rust;

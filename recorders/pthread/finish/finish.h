@@ -225,7 +225,8 @@ struct source; /* a signal with a handler */
 
 void write_sets(const char *folder);
 uint64_t threads_with_events(void); /* of the system's: a thread and the runs in it are one */
-bool is_queued(const struct arena *a, uint32_t object, enum mode mode); /* as a reader of a read-write lock behind a waiting writer */
+bool is_queued(struct arena *a, uint32_t process, uint32_t object, enum mode mode); /* as a reader of a read-write lock behind a waiting writer */
+bool comes_late(const struct source *source); /* only when its thread has taken its last lock */
 bool may_interrupt(const struct source *source, const struct arena *a, const struct raw_thread *t, uint32_t state);
 void tell_sources(FILE *file); /* lines of SUMMARY */
 const char *tell_signal(char *text, size_t room, unsigned number);

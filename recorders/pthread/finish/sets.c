@@ -20,9 +20,11 @@ struct source {
     uint64_t runs, continued;
     bool is_sent_to_process; /* else to threads alone */
     bool is_of_locking;      /* its program takes locks */
+    bool is_late;            /* it comes only when its thread has taken its last lock */
     uint32_t number;         /* of its set; 0: it has none */
     struct locks taken;      /* the single locks that its runs waited for */
     struct locks narrow;     /* those of them, and of those that they tried for, that know their owner */
+    struct locks others;     /* those that are neither mutexes nor read-write locks */
     struct locks rwlocks;    /* those that know their writer */
     struct locks queued;     /* those that it takes as a reader who doesn't pass waiting writers */
     struct locks written;    /* those that it takes otherwise */
@@ -128,7 +130,34 @@ static enum raw_knows what_it_knows(const struct arena *a, uint32_t object) {
     return (enum raw_knows)((const struct raw_object *)part_of(a, RAW_OBJECTS, object))->knows;
 }
 
-bool is_queued(const struct arena *a, uint32_t object, enum mode mode) { return mode == MODE_READ && what_it_knows(a, object) == KNOWS_WRITER; }
+/* ---- Readers that wait behind waiting writers, which a kind of read-write lock has: only of a lock for which somebody waits as a writer. */
+
+static struct locks with_queue, with_writers; /* such locks that a run reads, and those of them that have writers */
+
+static bool may_queue(const struct arena *a, uint32_t object, enum mode mode) { return mode == MODE_READ && what_it_knows(a, object) == KNOWS_WRITER; }
+
+bool is_queued(struct arena *a, uint32_t process, uint32_t object, enum mode mode) {
+    return may_queue(a, object, mode) && has_lock(&with_writers, key_of_object(a, process, object));
+}
+
+static void read_writers_of(struct arena *a, const struct raw_thread *t) {
+    for (uint64_t i = 0; i < t->count; i++) {
+        const struct raw_record *r = record_of(a, t, i);
+        bool is_write = r && raw_mode(r->what) == MODE_WRITE && !is_left_out(a, raw_object(r->what));
+        int key = is_write ? key_of_object(a, t->process, raw_object(r->what)) : NO_KEY;
+        if (is_write && has_lock(&with_queue, key))
+            add_once(&with_writers, key);
+    }
+}
+
+static void read_writers(void) {
+    for (size_t i = 0; with_queue.count && i < arena_count; i++)
+        for (uint32_t n = 1; n <= count_of(&arenas[i], RAW_THREADS); n++) {
+            const struct raw_thread *t = part_of(&arenas[i], RAW_THREADS, n);
+            if (t->is_ready)
+                read_writers_of(&arenas[i], t);
+        }
+}
 
 static void add_taken(const struct arena *a, struct source *source, uint32_t object, enum mode mode, int key) {
     enum raw_knows knows = what_it_knows(a, object);
@@ -137,9 +166,16 @@ static void add_taken(const struct arena *a, struct source *source, uint32_t obj
     if (mode >= MODE_TRY_WRITE)
         return;
     add_once(&source->taken, key);
+    if (knows == IS_OTHER)
+        add_once(&source->others, key);
     if (knows == KNOWS_WRITER)
         add_once(&source->rwlocks, key);
-    add_once(is_queued(a, object, mode) ? &source->queued : &source->written, key);
+    if (!may_queue(a, object, mode)) {
+        add_once(&source->written, key);
+        return;
+    }
+    add_once(&source->queued, key);
+    add_once(&with_queue, key);
 }
 
 static void read_taken(struct arena *a, const struct raw_thread *t, struct source *source) {
@@ -243,11 +279,53 @@ static bool may_interrupt_any(const struct source *source, const struct arena *a
     return false;
 }
 
+/* ---- Signals that come late: each was sent to a thread that had taken its last lock by then, as one that ends a thread. If it is never sent earlier
+   nothing waits for its handler. */
+
+/* Whether what runs in a thread, but for the source, takes nothing any more once the source's first run has come. */
+static bool is_late_in(const struct source *source, const struct arena *a, const struct raw_run *run) {
+    for (uint32_t n = 1; n <= count_of(a, RAW_THREADS); n++) {
+        const struct raw_thread *t = part_of(a, RAW_THREADS, n);
+        bool is_own = t->is_ready && t->system_thread == run->system_thread && t->process == run->process;
+        if (is_own && (t->source ? source_numbered(a, t->source) != source || may_interrupt_any(source, a, t) : t->calls != run->calls))
+            return false;
+    }
+    return true;
+}
+
+static bool is_late_everywhere(const struct source *source, const struct arena *a) {
+    for (uint32_t n = 1; n <= count_of(a, RAW_RUNS); n++) {
+        const struct raw_run *run = part_of(a, RAW_RUNS, n);
+        if (source_numbered(a, run->source) == source && !is_late_in(source, a, run))
+            return false;
+    }
+    return true;
+}
+
+static void find_late(struct source *source) {
+    source->is_late = source->runs && !source->is_sent_to_process;
+    for (size_t i = 0; i < arena_count && source->is_late; i++)
+        source->is_late = is_late_everywhere(source, &arenas[i]);
+}
+
+bool comes_late(const struct source *source) { return source && source->is_late; }
+
 /* ---- The sets. A trace has the number that it has among all traces. Runs that their own source may interrupt are in a set twice. */
 
 static void make_folder(const char *path) {
     if (mkdir(path, 0777) != 0 && errno != EEXIST)
         refuse_file("can't be made", path);
+}
+
+/* In a child that a handler has forked, the handler's run goes on with what it has interrupted in the parent: a lock that was held there is held in
+   the child. So the run takes the parent's locks, too. */
+static bool write_as_of_parent(const char *folder, const struct source *source, struct arena *a, const struct raw_thread *t, uint32_t number) {
+    struct raw_thread in_parent = *t;
+    const struct raw_process *process = t->process ? part_of(a, RAW_PROCESSES, t->process) : NULL;
+    if (!process || !process->parent)
+        return false;
+    in_parent.process = process->parent;
+    return write_in_set(folder, source, a, &in_parent, number, true);
 }
 
 static void write_in(const char *folder, const struct source *source, struct arena *a, uint32_t n, uint32_t *more) {
@@ -258,6 +336,8 @@ static void write_in(const char *folder, const struct source *source, struct are
     write_in_set(folder, source, a, t, a->traces[n], is_run);
     if (is_run && may_interrupt_any(source, a, t))
         *more += write_in_set(folder, source, a, t, (uint32_t)sums.threads + *more + 1, false);
+    if (is_run && t->is_of_parent)
+        *more += write_as_of_parent(folder, source, a, t, (uint32_t)sums.threads + *more + 1);
 }
 
 static bool has_source(const struct arena *a, const struct source *source) {
@@ -275,11 +355,12 @@ static bool shares_locks(const struct arena *a) {
 }
 
 /* Programs that neither have the handler nor share a lock say nothing of it. */
-static void write_set(const char *folder, const struct source *source) {
+static void write_set(const char *folder, struct source *source) {
     char path[4300];
     uint32_t more = 0;
     snprintf(path, sizeof path, "%s/%u", folder, source->number);
     make_folder(path);
+    find_late(source);
     for (size_t i = 0; i < arena_count; i++) {
         struct arena *a = &arenas[i];
         bool is_part = has_source(a, source) || shares_locks(a);
@@ -321,13 +402,13 @@ static void write_about(FILE *file, const struct source *s) {
     fprintf(file, ", \"offset\": \"0x%lx\", \"file\": null, \"line\": null", is_somewhere(s) ? (unsigned long)raw_word_offset(s->handler) : 0);
 }
 
-/* The names of locks, but for some of them. */
-static void write_locks(FILE *file, const char *what, const struct locks *locks, const struct locks *but) {
+/* The names of locks, but for some of them, and only of some if that is asked for. */
+static void write_locks(FILE *file, const char *what, const struct locks *locks, const struct locks *but, const struct locks *only) {
     char object[MAX_OBJECT_NAME + 1];
     const char *before = "";
     fprintf(file, ", \"%s\": [", what);
     for (size_t i = 0; i < locks->count; i++) {
-        if (but && has_lock(but, locks->keys[i]))
+        if ((but && has_lock(but, locks->keys[i])) || (only && !has_lock(only, locks->keys[i])))
             continue;
         tell_object(object, sizeof object, locks->keys[i]);
         fputs(before, file);
@@ -342,10 +423,11 @@ static void write_source(FILE *file, const struct source *s) {
     write_about(file, s);
     fprintf(file, ", \"runs\": %lu, \"sent_to\": \"%s\", \"takes\": %lu", (unsigned long)s->runs,
             s->is_sent_to_process ? "process" : "threads", (unsigned long)s->taken.count);
-    write_locks(file, "narrow", &s->narrow, NULL);
-    write_locks(file, "rwlocks", &s->rwlocks, NULL);
-    write_locks(file, "queued", &s->queued, &s->written);
-    putc('}', file);
+    write_locks(file, "narrow", &s->narrow, NULL, NULL);
+    write_locks(file, "others", &s->others, NULL, NULL);
+    write_locks(file, "rwlocks", &s->rwlocks, NULL, NULL);
+    write_locks(file, "queued", &s->queued, &s->written, &with_writers);
+    fputs(s->is_late ? ", \"late\": true}" : "}", file);
 }
 
 static void write_never(FILE *file, const struct source *s) {
@@ -383,6 +465,7 @@ void write_sets(const char *folder) {
         read_runs(&arenas[i]);
         read_all_taken(&arenas[i]);
     }
+    read_writers();
     number_sets();
     if (!source_count)
         return;

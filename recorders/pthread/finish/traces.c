@@ -266,7 +266,7 @@ static void write_weak(const char *folder, struct trace *t, bool is_kept) {
 /* A reader that doesn't pass waiting writers waits behind one even if its own thread reads. Only a writer's acquisition in an interrupt says that:
    such a lock has no other readers, so nothing else follows from it. */
 static const char *mode_word(const struct trace *t, const struct held *h) {
-    return mode_words[t->is_frame && is_queued(t->arena, h->object, h->mode) ? MODE_WRITE : h->mode];
+    return mode_words[t->is_frame && is_queued(t->arena, t->raw->process, h->object, h->mode) ? MODE_WRITE : h->mode];
 }
 
 static void take(struct trace *t, const struct raw_record *r) {
@@ -293,7 +293,7 @@ static void take(struct trace *t, const struct raw_record *r) {
     if (h.is_written)
         write_event(t, &h, mode_word(t, &h), r->place);
     if (h.is_written)
-        tell_weak(t, r->what);
+        tell_weak(t, r->what | (t->is_frame && comes_late(t->source) && !is_try(mode) ? raw_what(0, RAW_ENDED) : 0));
     if (h.is_written && is_in_order)
         take_back(t, &h);
     t->written += h.is_written;

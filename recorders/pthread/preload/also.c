@@ -35,17 +35,37 @@ struct once {
     struct once *before;
 };
 
+/* The routines that handlers have run, and who has asked for one of these since: the first time a thread does so, it might have run it itself. */
+static struct names run_by_handlers;
+static uint32_t has_handler_run_one;
+
+static void note_run_by_handler(uintptr_t control) {
+    uint32_t *slot = added_slot(&run_by_handlers, mixed(control));
+    if (slot)
+        STORE(slot, 1);
+    STORE(&has_handler_run_one, 1);
+}
+
+static bool might_have_run(uintptr_t control) {
+    if (run_source() || !name_slot(&run_by_handlers, mixed(control)))
+        return false;
+    uint32_t *slot = added_slot(&run_by_handlers, mixed(mixed(control) + own_system_thread())), none = 0;
+    return slot && SWAP(slot, &none, 1);
+}
+
 static void run_once(void) {
-    struct once *once = midst.once;
-    midst.once = once->before;
+    struct once *once = self.midst.once;
+    self.midst.once = once->before;
+    if (RARELY(run_source()))
+        note_run_by_handler(once->control);
     if (once->is_recorded)
         end_wish(once->control, true, once->call);
     once->routine();
 }
 
 static void end_once(struct once *once) {
-    if (midst.once == once)
-        midst.once = once->before;
+    if (self.midst.once == once)
+        self.midst.once = once->before;
     if (!once->is_recorded)
         return;
     end_wish(once->control, true, once->call);
@@ -53,9 +73,10 @@ static void end_once(struct once *once) {
 }
 
 static inline void found_done(uintptr_t control, struct call call) {
-    if (LIKELY(!is_any_held() && !run_source()))
+    bool is_not_done = RARELY(LOAD(&has_handler_run_one)) && might_have_run(control);
+    if (LIKELY(!is_any_held() && !run_source() && !is_not_done))
         return;
-    acquired(control, MODE_WRITE | RAW_DONE, KIND_ONCE, call);
+    acquired(control, MODE_WRITE | (is_not_done ? 0 : RAW_DONE), KIND_ONCE, call);
     releasing(control, call);
 }
 
@@ -69,9 +90,9 @@ static inline void found_done(uintptr_t control, struct call call) {
             found_done((uintptr_t)control, HERE);                                                                      \
             return REAL(name)(control, routine);                                                                       \
         }                                                                                                              \
-        struct once once __attribute__((cleanup(end_once))) = {(uintptr_t)control, HERE, routine, false, midst.once};  \
+        struct once once __attribute__((cleanup(end_once))) = {(uintptr_t)control, HERE, routine, false, self.midst.once};  \
         once.is_recorded = begin_wish(once.control, MODE_WRITE, KIND_ONCE, once.call);                                 \
-        midst.once = &once;                                                                                            \
+        self.midst.once = &once;                                                                                            \
         return REAL(name)(control, run_once);                                                                          \
     }
 

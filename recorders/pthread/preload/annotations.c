@@ -71,14 +71,19 @@ struct order {
 };
 
 #define MOST_ORDERS 65536
-static struct order orders[MOST_ORDERS] LARGE;
+static struct order *orders; /* made when it is needed first: the library itself stays below two megabytes (own.h) */
 static struct names orders_of_locks;
 static uint32_t order_count;
+
+static struct order *all_orders(void) {
+    struct order *there = LOAD(&orders), *made = there ? there : take_private(MOST_ORDERS * sizeof *made);
+    return there || !made || SWAP(&orders, &there, made) ? made : there;
+}
 
 /* Where the order of a lock is kept, or NULL if there is no room. */
 static struct order *new_order(uintptr_t lock) {
     uint32_t *slot = added_slot(&orders_of_locks, mixed(lock)), number = slot ? LOAD(slot) : 0;
-    if (!number && slot && LOAD(&order_count) < MOST_ORDERS) {
+    if (!number && slot && LOAD(&order_count) < MOST_ORDERS && all_orders()) {
         uint32_t made = ADD(&order_count, 1) + 1;
         number = made <= MOST_ORDERS && SWAP(slot, &number, made) ? made : number;
     }
@@ -136,23 +141,23 @@ static void note_breach(struct raw_breach new, struct call call) {
    by another thread; it is 0 if the lock wasn't known yet. */
 void say_subclass(uintptr_t lock, uint32_t subclass) {
     uint32_t object = lock_object(lock);
-    midst.nested_lock = lock;
-    midst.next_subclass = subclass;
-    midst.nested_object = object ? apart(lock, object) : 0;
+    self.midst.nested_lock = lock;
+    self.midst.next_subclass = subclass;
+    self.midst.nested_object = object ? apart(lock, object) : 0;
 }
 
 /* This thread has given the lock another object, by its name or by initialising it again. */
 void keep_nesting(uintptr_t lock) {
-    if (RARELY(midst.nested_lock == lock))
-        midst.nested_object = lock_object(lock);
+    if (RARELY(self.midst.nested_lock == lock))
+        self.midst.nested_object = lock_object(lock);
 }
 
 /* That acquisition of the lock is here. Returns whether it is still the same lock. */
 bool end_nesting(uintptr_t lock) {
-    if (midst.nested_lock != lock)
+    if (self.midst.nested_lock != lock)
         return false;
-    midst.nested_lock = 0;
-    return !is_single(midst.nested_object) || lock_object(lock) == midst.nested_object;
+    self.midst.nested_lock = 0;
+    return !is_single(self.midst.nested_object) || lock_object(lock) == self.midst.nested_object;
 }
 
 void forget_words(uintptr_t lock) {
@@ -163,7 +168,7 @@ void forget_words(uintptr_t lock) {
 }
 
 static uint32_t with_subclass(uintptr_t lock, uint32_t object) {
-    return end_nesting(lock) && midst.next_subclass ? object_of_subclass(lock, object, midst.next_subclass) : object;
+    return end_nesting(lock) && self.midst.next_subclass ? object_of_subclass(lock, object, self.midst.next_subclass) : object;
 }
 
 uint32_t subclass_held(uintptr_t lock) {
@@ -293,8 +298,8 @@ static void end_locks(uintptr_t from, unsigned long bytes, struct call call) {
         return;
     }
     end_own_holds(from, from + bytes, call);
-    if (midst.nested_lock - from < bytes)
-        end_nesting(midst.nested_lock);
+    if (self.midst.nested_lock - from < bytes)
+        end_nesting(self.midst.nested_lock);
     each_lock_between(from, from + bytes, note_given_out);
     drop_locks_between(from, from + bytes);
 }

@@ -65,8 +65,10 @@ static int stub_for(struct action *new, struct call call) {
         if (there || !SWAP(&a->handler, &there, CLAIMED))
             continue;
         a->mask = new->mask;
+        a->blocks = new->mask | (new->flags & SA_NODEFER ? 0 : bit_of(new->number));
         a->flags = new->flags;
         a->number = new->number;
+        a->is_odd = new->flags & SA_RESETHAND || may_be_continuation(new->number);
         a->source = source_of(new->number, new->handler, call);
         STORE(&a->handler, new->handler);
         return (int)i;

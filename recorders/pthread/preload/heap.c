@@ -383,9 +383,9 @@ static inline bool resolved_for(struct call call) { return LIKELY(LOAD(&resolve_
 
 static inline uint64_t asked_element(size_t size) {
     uint64_t element = 0;
-    if (RARELY(midst.array_asked_for)) {
-        element = midst.array_asked_for == size ? RAW_ARRAY : 0;
-        midst.array_asked_for = 0;
+    if (RARELY(self.midst.array_asked_for)) {
+        element = self.midst.array_asked_for == size ? RAW_ARRAY : 0;
+        self.midst.array_asked_for = 0;
     }
     return element;
 }

@@ -152,16 +152,22 @@ _Static_assert((offsetof(struct thread, first_entries) + sizeof(struct entry)) %
 
 /* ---- Runs of signals' handlers. Each is a thread of its own in the recording, and what it has interrupted is kept meanwhile. */
 
+/* What a thread is doing, of which a run begins with nothing. */
+struct current {
+    struct thread *thread;
+    uintptr_t inside_caller, inside_frame;
+    struct midst midst;
+};
+
 #define MOST_RUNS RAW_SIGNALS /* that interrupt one another; what comes on top of so many counts as called there */
 
 struct interrupted {
     uintptr_t frame; /* of the run's function; written last, and 0 if nothing is kept here */
-    struct thread *thread;
-    uintptr_t inside_caller, inside_frame;
-    struct midst midst;
+    struct current current; /* (its thread is NULL if that goes on as what it was) */
     uint32_t source;      /* of what runs on top of it */
     bool is_continuation; /* that is a call that it made, as it were */
     bool is_on_own_stack; /* that has a stack of its own */
+    bool is_of_parent;    /* that began in the process that has forked this one */
 };
 
 /* A lock that a run has left locked: it belongs to what was interrupted. */
@@ -174,31 +180,37 @@ struct left {
 
 #define KNOWN_RUNS 8
 
-struct runs { /* of a thread of the system's */
+struct runs { /* of a thread of the system's; what a run that takes nothing comes to lies close together */
     uint32_t is_taken, depth;
     uint32_t left_count;
     struct thread *threads; /* of all sources that ran in it */
-    struct interrupted interrupted[MOST_RUNS];
+    struct runs *next;
     struct {
         uint32_t source;
         struct raw_run *run;
     } known[KNOWN_RUNS];
+    struct interrupted interrupted[MOST_RUNS];
     struct left left[MOST_LEFT];
-    struct runs *next;
 };
 
 /* What each thread looks at first. */
 struct self {
-    struct thread *thread; /* NULL: none yet, or not any more */
-    volatile uintptr_t inside_caller, inside_frame; /* of its call of the recorder. The frame is written last, and is 0 if it is outside. */
+    union {
+        struct {
+            struct thread *thread; /* NULL: none yet, or not any more */
+            volatile uintptr_t inside_caller, inside_frame; /* of its call of the recorder. The frame is written last, and is 0 if it is outside. */
+            struct midst midst;
+        };
+        struct current current; /* the same at once */
+    };
     bool is_ended, is_mask_known;
     bool is_changing_mask; /* by a call that is under way */
     uint8_t destructor_rounds;
     uint8_t waiting_level; /* one more than how many runs there were when it waits with another mask; 0: it doesn't wait so */
-    uint32_t system_thread;
     uint64_t mask, waiting_mask; /* which signals are blocked in it, as far as known */
     struct runs *runs; /* NULL if no handler has run in it yet */
-};
+    uint32_t system_thread;
+} __attribute__((aligned(64)));
 extern EARLY_THREAD_LOCAL struct self self;
 
 QUICK void go_inside(struct call call) {
@@ -316,6 +328,7 @@ static inline void forget_uses(struct thread *t) {
 
 void heed_thread_end(void);
 uint32_t run_source(void);              /* whose run this thread is in; 0: in none */
+bool is_run_of_parent(void);            /* whether that began in the process that has forked this one */
 void add_run(struct thread *t);
 bool is_left_for(struct left *left);    /* the next lock that is left for what runs now */
 void leave_lock(const struct held *h);  /* to what was interrupted */

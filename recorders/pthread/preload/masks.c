@@ -41,7 +41,15 @@ static uint64_t mask_after(int how, uint64_t before, uint64_t set) {
     return how == SIG_BLOCK ? before | set : how == SIG_UNBLOCK ? before & ~set : set;
 }
 
-/* ---- Changing it. */
+/* ---- Changing it. A handler may come in meanwhile, and change it for itself. */
+
+static bool begin_change(void) {
+    bool was_changing = self.is_changing_mask;
+    self.is_changing_mask = true;
+    return was_changing;
+}
+
+static void end_change(bool was_changing) { self.is_changing_mask = was_changing; }
 
 typedef int masking(int how, const sigset_t *set, sigset_t *old);
 
@@ -50,7 +58,7 @@ __attribute__((noinline)) static int change_mask(masking *real, int how, const s
     uint64_t new = set ? word_of_set(set) : 0;
     know_mask();
     uint64_t known = self.mask;
-    self.is_changing_mask = true;
+    bool was_changing = begin_change();
     if (set)
         set_mask(known & mask_after(how, known, new), call);
     bool is_asking = old || !set || how == SIG_UNBLOCK; /* (if all of it is set, what was before doesn't matter) */
@@ -58,7 +66,7 @@ __attribute__((noinline)) static int change_mask(masking *real, int how, const s
     int answer = real(how, set, to);
     uint64_t before = answer == 0 && is_asking ? word_of_set(to) : known;
     set_mask(answer == 0 && set ? mask_after(how, before, new) : before, call);
-    self.is_changing_mask = false;
+    end_change(was_changing);
     return answer;
 }
 
@@ -78,11 +86,11 @@ MASKING(sigprocmask)
             return REAL(name)(what);                                                                                   \
         know_mask();                                                                                                   \
         uint64_t known = self.mask, then = blocked;                                                                    \
-        self.is_changing_mask = true;                                                                                  \
+        bool was_changing = begin_change();                                                                            \
         set_mask(known & then, HERE);                                                                                  \
         int answer = REAL(name)(what);                                                                                 \
         set_mask((may_fail) && answer < 0 ? known : then, HERE);                                                       \
-        self.is_changing_mask = false;                                                                                 \
+        end_change(was_changing);                                                                                      \
         return answer;                                                                                                 \
     }
 
@@ -120,11 +128,11 @@ static struct waiting begin_wait(bool is_one, uint64_t mask, struct call call) {
 static void end_wait(struct waiting *w) {
     if (!w->is_one)
         return;
-    self.is_changing_mask = true;
+    bool was_changing = begin_change();
     self.waiting_level = w->level_before;
     self.waiting_mask = w->waiting_before;
     set_mask(w->before, w->call);
-    self.is_changing_mask = false;
+    end_change(was_changing);
 }
 
 /* They may be cancelled meanwhile. */

@@ -1,5 +1,5 @@
 /* The operators `new[]` of C++: what comes from them is an array. They go on to those of the C++ library, and these to its `new`. */
-#include "own.h"
+#include "held.h"
 
 #include <stdlib.h>
 
@@ -44,25 +44,25 @@ static void *plain, *quiet, *aligned, *aligned_quiet;
 
 EXPORT void *_Znam(size_t size) {
     void *(*real)(size_t) = real_one(&plain, "_Znam", by_malloc);
-    midst.array_asked_for = size;
+    self.midst.array_asked_for = size;
     return real(size);
 }
 
 EXPORT void *_ZnamRKSt9nothrow_t(size_t size, const void *nothrow) {
     void *(*real)(size_t, const void *) = real_one(&quiet, "_ZnamRKSt9nothrow_t", by_malloc_quietly);
-    midst.array_asked_for = size;
+    self.midst.array_asked_for = size;
     return real(size, nothrow);
 }
 
 EXPORT void *_ZnamSt11align_val_t(size_t size, size_t alignment) {
     void *(*real)(size_t, size_t) = real_one(&aligned, "_ZnamSt11align_val_t", by_aligned_alloc);
-    midst.array_asked_for = size;
+    self.midst.array_asked_for = size;
     return real(size, alignment);
 }
 
 EXPORT void *_ZnamSt11align_val_tRKSt9nothrow_t(size_t size, size_t alignment, const void *nothrow) {
     void *(*real)(size_t, size_t, const void *) =
         real_one(&aligned_quiet, "_ZnamSt11align_val_tRKSt9nothrow_t", by_aligned_alloc_quietly);
-    midst.array_asked_for = size;
+    self.midst.array_asked_for = size;
     return real(size, alignment, nothrow);
 }

@@ -16,8 +16,6 @@ void __longjmp_chk(struct __jmp_buf_tag to[1], int value) __attribute__((noretur
 REALS(KNOWN_REAL)
 FIND_AT_START(REALS)
 
-EARLY_THREAD_LOCAL struct midst midst;
-
 /* ---- What is kept of a thread of the system's. */
 
 static struct runs *all_runs; /* in use or not */
@@ -51,6 +49,8 @@ void forget_runs_of_parent(void) {
         return;
     self.runs->threads = NULL;
     memset(self.runs->known, 0, sizeof self.runs->known);
+    for (uint32_t level = 0; level < self.runs->depth; level++)
+        self.runs->interrupted[level].is_of_parent = true;
 }
 
 void drop_runs(void) {
@@ -66,12 +66,16 @@ void drop_runs(void) {
 
 uint32_t level_of_runs(void) { return self.runs ? self.runs->depth : 0; }
 
-struct thread **thread_at_level(uint32_t level) { return level == level_of_runs() ? &self.thread : &self.runs->interrupted[level].thread; }
+struct thread **thread_at_level(uint32_t level) {
+    return level == level_of_runs() ? &self.thread : &self.runs->interrupted[level].current.thread;
+}
 
 uint32_t run_source(void) { return level_of_runs() ? self.runs->interrupted[self.runs->depth - 1].source : 0; }
 
+bool is_run_of_parent(void) { return level_of_runs() && self.runs->interrupted[self.runs->depth - 1].is_of_parent; }
+
 /* The thread as which earlier runs of the source were recorded; NULL if none of them took a lock. */
-static struct thread *idle_run(struct runs *r, uint32_t source) {
+__attribute__((noinline)) static struct thread *idle_run(struct runs *r, uint32_t source) {
     for (struct thread *t = r->threads; t; t = t->next_run)
         if (t->source == source && !t->is_running) {
             t->is_running = true;
@@ -118,18 +122,25 @@ bool is_left_for(struct left *left) {
 
 /* ---- The beginning of a run. */
 
-static bool is_continuation(int number, const siginfo_t *info) {
+/* Of these signals some come from what the code does itself. */
+bool may_be_continuation(int number) {
     switch (number) {
     case SIGSEGV:
     case SIGBUS:
     case SIGFPE:
     case SIGILL:
     case SIGTRAP:
-    case SIGSYS: return info->si_code > 0;
+    case SIGSYS:
     case SIGABRT:
-    case SIGPIPE: return info->si_code <= 0 && (uint32_t)info->si_pid == LOAD(&own_id);
+    case SIGPIPE: return true;
     default: return false;
     }
+}
+
+static bool is_continuation(int number, const siginfo_t *info) {
+    if (number == SIGABRT || number == SIGPIPE)
+        return info->si_code <= 0 && (uint32_t)info->si_pid == LOAD(&own_id);
+    return info->si_code > 0;
 }
 
 /* What has sent a signal that doesn't say to whom; NULL if that was another process, or a call that sends to the process. */
@@ -142,10 +153,13 @@ static const struct sender *sender_of(const siginfo_t *info) {
 }
 
 /* Who may have sent a signal to a thread may have sent it to the process otherwise, unless it is always done so. */
-static uint32_t sent_to(int number, const siginfo_t *info) {
+__attribute__((noinline)) static uint32_t sent_otherwise(int number, const siginfo_t *info) {
     const struct sender *by = sender_of(info);
-    bool is_to_thread = info->si_code == SI_TKILL || (by && LOAD(&by->to_threads) & ~LOAD(&by->to_processes) & bit_of(number));
-    return is_to_thread ? SENT_TO_THREAD : SENT_TO_PROCESS;
+    return by && LOAD(&by->to_threads) & ~LOAD(&by->to_processes) & bit_of(number) ? SENT_TO_THREAD : SENT_TO_PROCESS;
+}
+
+QUICK uint32_t sent_to(int number, const siginfo_t *info) {
+    return info->si_code == SI_TKILL ? SENT_TO_THREAD : info->si_code == SI_USER ? SENT_TO_PROCESS : sent_otherwise(number, info);
 }
 
 __attribute__((noinline)) static struct raw_run *found_run(struct runs *r, uint32_t source) {
@@ -159,32 +173,30 @@ __attribute__((noinline)) static struct raw_run *found_run(struct runs *r, uint3
     return run;
 }
 
-static void count_run(struct runs *r, int number, uint32_t source, const siginfo_t *info) {
+QUICK void count_run(struct runs *r, int number, uint32_t source, const siginfo_t *info) {
     uint32_t i = source % KNOWN_RUNS;
     struct raw_run *run = LIKELY(r->known[i].source == source) ? r->known[i].run : found_run(r, source);
-    if (run) {
+    if (LIKELY(run)) {
         run->count++;
         run->sent |= sent_to(number, info);
     }
 }
 
-static bool is_on_own_stack(uintptr_t address, const stack_t *stack) {
-    return stack->ss_flags != SS_DISABLE && address - (uintptr_t)stack->ss_sp < stack->ss_size;
-}
+/* (of a thread without a stack for handlers it has size 0) */
+QUICK bool is_on_own_stack(uintptr_t address, const stack_t *stack) { return address - (uintptr_t)stack->ss_sp < stack->ss_size; }
+
+__attribute__((noinline)) static void end_thread_of_run(struct call call) { end_run(self.thread, call); }
 
 /* Takes the newest one out, and puts back what it has interrupted. */
-static void end_newest(struct runs *r, struct call call) {
+QUICK void end_newest(struct runs *r, struct call call) {
     struct interrupted *i = &r->interrupted[r->depth - 1];
-    if (i->frame && !i->is_continuation) {
-        if (self.thread)
-            end_run(self.thread, call);
-        self.thread = i->thread;
-        self.inside_caller = i->inside_caller;
-        self.inside_frame = i->inside_frame;
-        midst = i->midst;
+    if (LIKELY(i->frame && !i->is_continuation)) {
+        if (RARELY(self.thread))
+            end_thread_of_run(call);
+        self.current = i->current;
     }
     i->frame = 0;
-    i->thread = NULL;
+    i->current.thread = NULL;
     __atomic_signal_fence(__ATOMIC_SEQ_CST);
     r->depth--;
 }
@@ -196,34 +208,14 @@ static void drop_left(struct runs *r, uintptr_t frame, bool is_own_stack, struct
         end_newest(r, call);
 }
 
-/* What is kept is there before anything of it is changed: a signal may come in between, and its handler may jump. */
-static void keep(struct interrupted *i, uint32_t below, uint32_t source, bool is_continuation, uintptr_t frame, bool is_on_own) {
-    i->thread = is_continuation ? NULL : self.thread;
-    i->inside_caller = self.inside_caller;
-    i->inside_frame = self.inside_frame;
-    i->midst = midst;
-    i->source = is_continuation ? below : source;
-    i->is_continuation = is_continuation;
-    i->is_on_own_stack = is_on_own;
-    __atomic_signal_fence(__ATOMIC_SEQ_CST);
-    i->frame = frame;
-    __atomic_signal_fence(__ATOMIC_SEQ_CST);
-    if (is_continuation)
-        return;
-    self.thread = NULL;
-    self.inside_frame = 0;
-    midst = (struct midst){.once = NULL};
-}
-
 #define STUB_BYTES 16
 
 /* A run of a handler. */
 struct run {
     const ucontext_t *context;
-    uint32_t level; /* so many runs are below it */
-    bool is_begun, was_waiting, is_at_edge, has_returned;
-    struct call call;
     uint64_t known_mask; /* before it */
+    uint32_t level;      /* so many runs are below it */
+    bool is_begun, is_continuation, was_waiting, is_at_edge, was_unknown, has_returned;
 };
 
 #ifdef __x86_64__
@@ -234,74 +226,144 @@ struct run {
 
 /* Whether another run was interrupted where it begins or ends, or another call of the recorder: what is known of the mask is about to be changed
    there, and was changed already. */
-static bool is_at_edge(const struct run *r) {
+static bool is_at_edge(const struct run *r, struct call call) {
     uintptr_t at = INTERRUPTED_AT(r->context);
     const struct module *own = known_module((uintptr_t)is_at_edge);
-    return own && ((at >= own->from && at < own->to) || at - r->call.caller < STUB_BYTES);
+    return own && ((at >= own->from && at < own->to) || at - call.caller < STUB_BYTES);
 }
 
-static uint64_t mask_of(const struct run *r) { return *(const uint64_t *)&r->context->uc_sigmask; }
+QUICK uint64_t mask_of(const struct run *r) { return *(const uint64_t *)&r->context->uc_sigmask; }
 
 /* While a call waits with another mask, what is in the context is what comes back after it. */
-static void begin_mask(struct run *r, const struct action *a) {
-    r->known_mask = self.mask;
-    r->is_at_edge = self.is_mask_known && self.mask != mask_of(r) && !r->was_waiting && is_at_edge(r);
+__attribute__((noinline)) static void begin_with_other_mask(struct run *r, struct call call) {
+    r->was_unknown = !self.is_mask_known;
+    r->is_at_edge = (r->was_unknown || self.mask != mask_of(r)) && !r->was_waiting && is_at_edge(r, call);
     bool is_unknown = (self.mask ^ mask_of(r)) & LOAD(&handled) && self.is_mask_known && !r->was_waiting && !r->is_at_edge;
     if (RARELY(is_unknown) && !self.is_changing_mask)
         ADD(&arena->unknown_masks, 1);
-    self.mask = (r->was_waiting ? self.waiting_mask : mask_of(r)) | a->mask | (a->flags & SA_NODEFER ? 0 : bit_of(a->number));
+    self.mask = r->was_waiting ? self.waiting_mask : mask_of(r);
     self.is_mask_known = true;
 }
 
-static void begin_run(struct run *r, const struct action *a, const siginfo_t *info) {
-    struct runs *all = LIKELY(self.runs) ? self.runs : make_runs();
-    if (!all)
-        return;
-    bool is_on_own = is_on_own_stack(r->call.frame, &r->context->uc_stack);
-    drop_left(all, r->call.frame, is_on_own, r->call);
+QUICK void begin_mask(struct run *r, const struct action *a, struct call call) {
+    r->known_mask = self.mask;
+    if (RARELY(r->known_mask != mask_of(r) || !self.is_mask_known || r->was_waiting))
+        begin_with_other_mask(r, call);
+    self.mask |= a->blocks;
+}
+
+/* What most runs have nothing of. False if there is no room. */
+__attribute__((noinline)) static bool begin_odd_run(struct run *r, const struct action *a, const siginfo_t *info, bool is_on_own,
+                                                    struct call call) {
+    struct runs *all = self.runs;
+    drop_left(all, call.frame, is_on_own, call);
+    r->was_waiting = self.waiting_level == all->depth + 1 && !is_at_edge(r, call);
     if (all->depth == MOST_RUNS)
-        return;
-    bool is_call = is_continuation(a->number, info);
+        return false;
+    if (a->flags & SA_RESETHAND && installed_source(a->number) == a->source)
+        install(a->number, 0);
+    r->is_continuation = may_be_continuation(a->number) && is_continuation(a->number, info);
+    return true;
+}
+
+/* What is kept is there before anything of it is changed: a signal may come in between, and its handler may jump. */
+QUICK void keep(struct interrupted *i, uint32_t source, bool is_on_own, struct call call) {
+    i->frame = 0;
+    __atomic_signal_fence(__ATOMIC_SEQ_CST);
+    self.runs->depth++;
+    __atomic_signal_fence(__ATOMIC_SEQ_CST);
+    i->current = self.current;
+    i->source = source;
+    i->is_continuation = false;
+    i->is_on_own_stack = is_on_own;
+    i->is_of_parent = false;
+    __atomic_signal_fence(__ATOMIC_SEQ_CST);
+    i->frame = call.frame;
+    __atomic_signal_fence(__ATOMIC_SEQ_CST);
+    self.current = (struct current){.thread = NULL};
+}
+
+/* One that goes on with what it has interrupted. */
+__attribute__((noinline)) static void keep_call(struct run *r, const struct action *a, bool is_on_own, struct call call) {
+    struct runs *all = self.runs;
+    struct interrupted *i = &all->interrupted[r->level];
     uint32_t below = run_source();
-    r->level = all->depth;
-    r->was_waiting = self.waiting_level == all->depth + 1 && !is_at_edge(r);
-    all->interrupted[all->depth].frame = 0;
+    bool is_of_parent = is_run_of_parent();
+    i->frame = 0;
     __atomic_signal_fence(__ATOMIC_SEQ_CST);
     all->depth++;
     __atomic_signal_fence(__ATOMIC_SEQ_CST);
+    i->current.thread = NULL;
+    i->source = below;
+    i->is_continuation = true;
+    i->is_on_own_stack = is_on_own;
+    i->is_of_parent = is_of_parent;
+    __atomic_signal_fence(__ATOMIC_SEQ_CST);
+    i->frame = call.frame;
+    __atomic_signal_fence(__ATOMIC_SEQ_CST);
+    begin_mask(r, a, call);
     r->is_begun = true;
-    keep(&all->interrupted[r->level], below, a->source, is_call, r->call.frame, is_on_own);
-    if (RARELY(a->flags & SA_RESETHAND) && installed_source(a->number) == a->source)
-        install(a->number, 0);
-    begin_mask(r, a);
-    if (is_call)
-        ADD(&((struct raw_source *)part_of(RAW_SOURCES, a->source))->continued, 1);
-    else {
-        self.thread = idle_run(all, a->source);
-        count_run(all, a->number, a->source, info);
+    ADD(&((struct raw_source *)part_of(RAW_SOURCES, a->source))->continued, 1);
+    look_at_state_later();
+}
+
+__attribute__((noinline)) static void go_on_as(struct thread *t) {
+    self.thread = t;
+    look_at_state_later();
+}
+
+QUICK void begin_run(struct run *r, const struct action *a, const siginfo_t *info, struct call call) {
+    struct runs *all = LIKELY(self.runs) ? self.runs : make_runs();
+    if (RARELY(!all))
+        return;
+    bool is_on_own = is_on_own_stack(call.frame, &r->context->uc_stack);
+    if (RARELY(all->depth | self.waiting_level | a->is_odd) && !begin_odd_run(r, a, info, is_on_own, call))
+        return;
+    r->level = all->depth;
+    if (RARELY(r->is_continuation)) {
+        keep_call(r, a, is_on_own, call);
+        return;
     }
+    r->is_begun = true;
+    keep(&all->interrupted[r->level], a->source, is_on_own, call);
+    begin_mask(r, a, call);
+    count_run(all, a->number, a->source, info);
+    struct thread *t = RARELY(all->threads) ? idle_run(all, a->source) : NULL;
+    if (RARELY(t))
+        go_on_as(t);
+}
+
+__attribute__((noinline)) static void look_at_state_after_run(bool has_returned) {
+    if (!has_returned)
+        self.is_changing_mask = false;
     look_at_state_later();
 }
 
 /* Also if the handler throws, or the thread ends in it. One that was left by a jump was ended then. The system puts back the mask that the
-   context has, and a call that waits with another one is over. */
-static void leave_run(struct run *r) {
+   context has, and a call that waits with another one is over. If handlers were installed, the era is another one. */
+QUICK void end_this_run(struct run *r, struct call call) {
     struct runs *all = self.runs;
+    bool is_changed = self.thread || !r->has_returned || r->is_continuation;
     while (r->is_begun && all && all->depth > r->level)
-        end_newest(all, r->call);
+        end_newest(all, call);
     if (r->has_returned)
-        self.mask = r->is_at_edge ? r->known_mask : mask_of(r);
-    if (r->was_waiting)
+        self.mask = RARELY(r->is_at_edge) ? r->known_mask : mask_of(r);
+    if (RARELY(r->is_at_edge & r->has_returned & r->was_unknown))
+        self.is_mask_known = false;
+    if (RARELY(r->was_waiting))
         self.waiting_level = 0;
-    look_at_state_later();
+    if (RARELY(is_changed || self.mask != r->known_mask))
+        look_at_state_after_run(r->has_returned);
 }
+
+QUICK void leave_run(struct run *r) { end_this_run(r, HERE); }
 
 __attribute__((used, visibility("hidden"), noinline)) void lockdep_run(int number, siginfo_t *info, void *context, uint32_t stub) {
     const struct action *a = &actions[stub];
     void (*handler)(int, siginfo_t *, void *) = (void (*)(int, siginfo_t *, void *))LOAD(&a->handler);
-    struct run r __attribute__((cleanup(leave_run))) = {.context = context, .call = HERE};
-    if (LIKELY(a->source && !self.is_ended && *era))
-        begin_run(&r, a, info);
+    struct run r __attribute__((cleanup(leave_run))) = {.context = context};
+    if (LIKELY(a->source && !self.is_ended && (*era || revived())))
+        begin_run(&r, a, info, HERE);
     handler(number, info, context);
     r.has_returned = true;
 }
@@ -366,6 +428,7 @@ static void leave_to(uintptr_t sp, struct call call) {
     }
     if (self.waiting_level == r->depth + 1)
         self.waiting_level = 0;
+    self.is_changing_mask = false;
 }
 
 #ifdef __x86_64__
@@ -396,10 +459,21 @@ void leave_for(const ucontext_t *to, struct call call) {
     look_at_state_later();
 }
 
+/* The C library puts the mask back itself, a moment later: a signal that comes in between would meet another one than is known. */
+static void put_mask_back(uint64_t mask, struct call call) {
+    bool is_other = ((self.mask ^ mask) & LOAD(&handled)) != 0;
+    self.is_changing_mask |= is_other;
+    set_mask(mask, call);
+    if (!is_other)
+        return;
+    SYSTEM(rt_sigprocmask, SIG_SETMASK, &mask, NULL, sizeof mask);
+    self.is_changing_mask = false;
+}
+
 static void before_jump(const struct __jmp_buf_tag *to, struct call call) {
     leave_to(target_of(to), call);
     if (to->__mask_was_saved)
-        set_mask(*(const uint64_t *)&to->__saved_mask, call);
+        put_mask_back(*(const uint64_t *)&to->__saved_mask, call);
     look_at_state_later();
 }
 

@@ -78,6 +78,7 @@ static uint32_t define_run(uint32_t source) {
     run->process = own_process;
     run->system_thread = own_system_thread();
     run->start = start_of_this_thread();
+    run->calls = *thread_at_level(0) ? (*thread_at_level(0))->raw->calls : 0;
     STORE(&run->source, source);
     return number;
 }

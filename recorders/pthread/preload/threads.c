@@ -50,8 +50,10 @@ static void begin_raw(struct thread *t, uint32_t number, uint32_t source) {
     if (!source) {
         begin_name(t->raw);
         note_trace(t->raw, number);
-    } else
+    } else {
         t->raw->start = start_of_this_thread();
+        t->raw->is_of_parent = is_run_of_parent();
+    }
 }
 
 static void begin_in_no_state(struct thread *t, uint32_t source) {
@@ -700,8 +702,9 @@ void leave_out(uintptr_t semaphore, struct call call) {
 static void note_what_it_knows(uintptr_t lock, uint32_t object, enum kind kind) {
     int basic = kind == KIND_MUTEX ? ((const pthread_mutex_t *)lock)->__data.__kind & MUTEX_KIND_BITS : 0;
     bool knows_owner = kind == KIND_RECURSIVE || basic == PTHREAD_MUTEX_RECURSIVE_NP || basic == PTHREAD_MUTEX_ERRORCHECK_NP;
-    if (knows_owner || kind == KIND_RWLOCK)
-        STORE(&((struct raw_object *)part_of(RAW_OBJECTS, object))->knows, knows_owner ? KNOWS_OWNER : KNOWS_WRITER);
+    enum raw_knows knows = knows_owner ? KNOWS_OWNER : kind == KIND_MUTEX ? KNOWS_NOTHING : kind == KIND_RWLOCK ? KNOWS_WRITER : IS_OTHER;
+    if (knows)
+        STORE(&((struct raw_object *)part_of(RAW_OBJECTS, object))->knows, knows);
 }
 
 /* A held lock is nested now: it becomes an object of its own, and so do its record and the ways that it is part of. */

@@ -1,5 +1,7 @@
 // What the recorder costs: one kind of work, and how many nanoseconds each step of it takes, of processes microseconds.
+#include <algorithm>
 #include <chrono>
+#include <csignal>
 #include <cstdio>
 #include <cstdlib>
 #include <cstring>
@@ -7,7 +9,9 @@
 #include <mutex>
 #include <pthread.h>
 #include <spawn.h>
+#include <sys/syscall.h>
 #include <sys/wait.h>
+#include <unistd.h>
 #include <vector>
 
 static double since(std::chrono::steady_clock::time_point start, double steps) {
@@ -39,6 +43,38 @@ static double pieces(int count) {
         free(piece);
     }
     return since(start, count);
+}
+
+static volatile int runs;
+static void counts(int) { runs = runs + 1; }
+
+// Of many rounds the least: each is short enough to be undisturbed.
+template <typename Work> static double least(int rounds, int count, Work work) {
+    double took = 1e18;
+    for (int i = 0; i < rounds; i++) {
+        auto start = std::chrono::steady_clock::now();
+        for (int j = 0; j < count; j++)
+            work();
+        took = std::min(took, since(start, count));
+    }
+    return took;
+}
+
+static double handlers() {
+    signal(SIGUSR1, counts);
+    pid_t process = getpid(), thread = (pid_t)syscall(SYS_gettid);
+    return least(200, 400, [=] { syscall(SYS_tgkill, process, thread, SIGUSR1); });
+}
+
+static double masks() {
+    sigset_t set;
+    sigemptyset(&set);
+    sigaddset(&set, SIGUSR1);
+    signal(SIGUSR1, counts);
+    return least(200, 400, [&] {
+               pthread_sigmask(SIG_BLOCK, &set, nullptr);
+               pthread_sigmask(SIG_UNBLOCK, &set, nullptr);
+           }) / 2;
 }
 
 struct Object {
@@ -76,6 +112,8 @@ int main(int argc, char **argv) {
                   : !strcmp(work, "deep")    ? deep(20, 5000000)
                   : !strcmp(work, "pieces")  ? pieces(5000000)
                   : !strcmp(work, "objects") ? objects(20000)
+                  : !strcmp(work, "handlers") ? handlers()
+                  : !strcmp(work, "masks")   ? masks()
                   : argc > 2                 ? processes(argv[2], 100)
                                              : -1;
     printf("%.1f\n", took);

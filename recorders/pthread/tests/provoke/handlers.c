@@ -1,7 +1,8 @@
 /* Signal handlers. That of SIGUSR1 takes table, which its thread may hold. If a file is there, whose name comes second, SIGUSR1 is blocked with
    `blocked` before table is taken, and with `replaced` it has another handler by then, which takes nothing. With `thread` SIGUSR1 is sent to a
-   thread alone. With `unblocks` it is unblocked with table held. With `inversion` the handler of SIGUSR2 takes stats: a second thread holds
-   stats and waits for pool, and the first one holds pool where SIGUSR2 comes in. */
+   thread alone. With `unblocks` it is unblocked with table held. With `recursive` table knows its owner. With `inversion` the handler of SIGUSR2
+   takes stats: a second thread holds stats and waits for pool, and the first one holds pool where SIGUSR2 comes in. */
+#define _GNU_SOURCE
 #include <pthread.h>
 #include <signal.h>
 #include <stdbool.h>
@@ -70,6 +71,8 @@ int main(int argc, char **argv) {
         inversion();
         return 0;
     }
+    if (strcmp(how, "recursive") == 0)
+        table = (pthread_mutex_t)PTHREAD_RECURSIVE_MUTEX_INITIALIZER_NP;
     signal(SIGUSR1, reload);
     if (strcmp(how, "thread") == 0)
         raise(SIGUSR1);
