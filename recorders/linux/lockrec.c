@@ -4,7 +4,7 @@
 
    debugfs/lockrec/cpuN     the records of one CPU (record.h), read until the recording is stopped and the buffer is empty
    debugfs/lockrec/modules  the symbols of modules that were loaded since this one, see note_module()
-   debugfs/lockrec/control  reading it says what was found, written and lost; `start` and `stop` are written to it
+   debugfs/lockrec/control  reading it says what was found, written and lost, and where some symbols are; `start` and `stop` are written to it
 
    Linux 6.1 to 6.12. */
 #ifndef CONFIG_PROVE_LOCKING
@@ -521,7 +521,7 @@ static int note_module(struct notifier_block *block, unsigned long event, void *
 {
 	const struct module *module = data;
 
-	if (event != MODULE_STATE_COMING && event != MODULE_STATE_GOING)
+	if ((event != MODULE_STATE_COMING && event != MODULE_STATE_GOING) || READ_ONCE(phase) == STOPPED)
 		return NOTIFY_DONE;
 	preempt_disable();
 	arch_spin_lock(&text_lock);
@@ -593,6 +593,30 @@ static const struct file_operations cpu_files = {
 
 static const char *const phase_names[] = {"idle", "running", "stopping", "stopped"};
 
+/* Symbols of this kernel, from all over its image: those of another one lie elsewhere. */
+static const struct {
+	const char *name;
+	const void *address;
+} landmarks[] = {
+	{"debug_locks", &debug_locks},
+	{"init_task", &init_task},
+	{"__lockdep_no_validate__", &__lockdep_no_validate__},
+	{"lock_acquire", lock_acquire},
+	{"vfree", vfree},
+	{"debugfs_create_dir", debugfs_create_dir},
+	{"vsnprintf", vsnprintf},
+};
+
+static void show_landmarks(struct seq_file *file)
+{
+	unsigned int number;
+
+	for (number = 0; number < ARRAY_SIZE(landmarks); number++)
+		seq_printf(file, "symbol %lx %s\n", (unsigned long)landmarks[number].address, landmarks[number].name);
+	if (lock_classes_at)
+		seq_printf(file, "symbol %lx lock_classes\n", lock_classes_at);
+}
+
 static int show_control(struct seq_file *file, void *data)
 {
 	unsigned int number, cpu;
@@ -604,7 +628,8 @@ static int show_control(struct seq_file *file, void *data)
 	for_each_possible_cpu(cpu)
 		seq_printf(file, "cpu%u slots written %lu lost %llu nested %llu\n", cpu, buffers[cpu]->head, buffers[cpu]->lost,
 			   buffers[cpu]->nested);
-	seq_printf(file, "modules lost %lu\n", text_lost);
+	seq_printf(file, "modules written %zu lost %lu\n", smp_load_acquire(&text_length), text_lost);
+	show_landmarks(file);
 	return 0;
 }
 

@@ -30,6 +30,7 @@ struct lr_record {
 
 /* What a record says. If a type isn't an acquisition, the fields have other meanings. */
 enum lr_type {
+    LR_NOTHING = 0, /* only in a recording made of text: what was left out there */
     LR_ACQUIRE = 1,
     LR_RELEASE = 2,
     LR_ENABLE = 3, /* hardirqs are about to be turned on; only if locks are held and lockdep says that they are off */

@@ -9,7 +9,7 @@ from .summary import read, recorder_of
 
 RECORDER = "linux"
 INCOMPLETE = "incomplete"  # begins a line of SUMMARY: why a clean report would say nothing
-SAYS = "the kernel's lockdep says: "
+SAYS = "the kernel's lockdep would say: "
 
 
 def is_of_kernel(folder: str) -> bool:

@@ -7,7 +7,7 @@ import signal
 import sys
 
 from .apart import folder_of
-from .checker import HOME, answer_of
+from .checker import HOME, REFUSED, answer_of
 from .files import STANDARD_OUTPUT, complain, is_file, print_file, same_file, text_named, write_form
 from .findings import Finding, findings_of
 from .folder import SIGNALS
@@ -169,6 +169,16 @@ def texts_of(given: dict[str, str], found: Found) -> dict[str, str]:
     return {form: json_of_checker(found) if form == "json" else text_of_form(form, found) for form in forms}
 
 
+def status_of(found: Found) -> int:
+    """As `confirm` has it: what nothing was found in is judged only if nothing was left out."""
+    if found.new:
+        return 1
+    if found.left_out:
+        complain(bytes_of("lockdep: nothing was found, but not all was checked. Left out: %s\n" % visible(found.left_out)))
+        return REFUSED
+    return 0
+
+
 def stop(number: int, _: object) -> None:
     """Ends at a signal without leaving anything half-written, or a program that was started."""
     raise SystemExit(128 + number)
@@ -190,4 +200,4 @@ def main(words: list[str]) -> int:
     found = found_in(given, files)
     for form, text in texts_of(given, found).items():
         write_form(given.get(form), text)
-    return 1 if found.new else 0
+    return status_of(found)

@@ -8,15 +8,17 @@ struct options options = {.folder = "traces", .version = 2, .keys = DEFAULT_KEYS
 
 struct counts counts;
 
-char reasons[MAX_REASONS][240];
+struct reason reasons[MAX_REASONS];
 int reason_count;
 
-__attribute__((format(printf, 1, 2))) void incomplete(const char *format, ...) {
+__attribute__((format(printf, 2, 3))) void incomplete(const char *code, const char *format, ...) {
     va_list words;
     if (reason_count == MAX_REASONS)
         return;
+    struct reason *reason = &reasons[reason_count++];
+    reason->code = code;
     va_start(words, format);
-    vsnprintf(reasons[reason_count++], sizeof *reasons, format, words);
+    vsnprintf(reason->text, sizeof reason->text, format, words);
     va_end(words);
 }
 

@@ -169,11 +169,30 @@ void end_flight(struct task *task) {
     level->is_taking = level->is_giving = false;
 }
 
+/* Not each kind of interrupt has a tracepoint. If one came in while an operation was in flight, and that has arrived since, another one came
+   in after it, though the task wasn't seen in between. */
+static bool is_another_interrupt(struct task *task, int depth) {
+    if (task->level == 0 || held_in_frame(task) || top(task)->is_taking)
+        return false;
+    return depth - task->held == task->levels[task->level - 1].difference;
+}
+
+static void begin_another_interrupt(struct task *task, int depth) {
+    enum frame frame = top(task)->frame;
+    counts.untold_interrupts++;
+    leave(task);
+    enter(task, frame, depth);
+}
+
 /* Whether the book has as many locks as lockdep. */
 bool does_agree(struct task *task, int depth) {
     int difference = depth - task->held - top(task)->difference;
     if (difference == 0) {
         top(task)->is_giving = false;
+        return true;
+    }
+    if (is_another_interrupt(task, depth)) {
+        begin_another_interrupt(task, depth);
         return true;
     }
     return is_in_flight(task, difference);

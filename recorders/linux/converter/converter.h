@@ -27,8 +27,13 @@
 #define ALIKE 2            /* traces that have to say the same before another that does is left out */
 #define LEFT_OUT (-1)      /* the key of a lock that isn't written */
 
-/* Why a clean report of these traces wouldn't say that all was looked at. */
+/* Why a clean report of these traces wouldn't say that all was looked at. The code is for programs, in summary.json. */
 #define MAX_REASONS 16
+
+struct reason {
+    const char *code;
+    char text[240];
+};
 
 /* A list's capacity, doubled as it grows. */
 #define PUSH(list, count, value)                                                                                       \
@@ -54,22 +59,25 @@ struct counts {
     unsigned long records, acquisitions, releases, events, traces;
     unsigned long agreed, mismatches, lost, gaps, blind;
     unsigned long taken_in_flight, given_in_flight;
+    unsigned long untold_interrupts; /* that no tracepoint told of, after one in which an operation was in flight */
     unsigned long unchecked, tries, not_looked_at, readers, not_chosen, unknown_releases, beyond_limit;
     unsigned long nested;        /* acquisitions under a nest_lock, with another lock of their class held */
     unsigned long off;           /* events after lockdep turned itself off, or of a recording without its account */
     unsigned long after_lockdep; /* events since the last one that lockdep looked at */
     unsigned long untold;        /* records of a CPU before its first task */
     unsigned long cut_files;
+    unsigned long absent, misplaced, unknown_types; /* records that damage took away, put elsewhere, or overwrote */
+    unsigned long unproven;      /* acquisitions of a text of which it isn't known until when the lock was held */
     unsigned long alike;         /* tasks that are left out, since others said the same */
     unsigned long shared;        /* tasks that share a trace with others */
 };
 
 extern struct options options;
 extern struct counts counts;
-extern char reasons[MAX_REASONS][240];
+extern struct reason reasons[MAX_REASONS];
 extern int reason_count;
 
-__attribute__((format(printf, 1, 2))) void incomplete(const char *format, ...);
+__attribute__((format(printf, 2, 3))) void incomplete(const char *code, const char *format, ...);
 _Noreturn void refuse(const char *what, const char *why);
 void *checked(void *memory);
 uint64_t mix(uint64_t sum, uint64_t word);
@@ -96,17 +104,35 @@ struct item {
     bool is_before_gap;
 };
 
+#define NOT_TOLD SIZE_MAX
+
+/* A symbol of the kernel that was recorded, and where it lies. */
+struct landmark {
+    uint64_t address;
+    const char *name;
+};
+
+/* What `control` says of the recording. */
+struct told {
+    bool is_there;
+    bool is_of_text; /* it was made of text, in which more is missing */
+    bool is_lockdep_off; /* lockdep had turned itself off at the end */
+    size_t symbols, modules; /* bytes of these files, or NOT_TOLD */
+    struct landmark *landmarks;
+    size_t landmark_count;
+};
+
 extern struct cpu cpus[MAX_CPUS];
 extern int cpu_count;
 extern int open_gaps; /* how many CPUs are losing records */
-extern bool is_of_text;          /* the recording was made of text, in which more is missing */
-extern bool is_lockdep_off;      /* lockdep had turned itself off at the end */
+extern struct told told;
 
 char *read_file(const char *path, size_t *size);
 char *read_raw(const char *name, size_t *size);
 void load_cpus(void);
 void begin_items(void);
 bool next_item(struct item *item);
+void check_item(const struct item *item);
 void compare_control(void);
 
 /* ---- symbols.c */
@@ -237,6 +263,7 @@ struct task {
     struct held book[MAX_HELD + 1];
     int held;
     bool is_new, is_blind, is_full, is_after_gap;
+    bool is_unsure; /* its account began at an interrupt or its end, below which an operation may be in flight that wasn't recorded */
     struct event *events;
     size_t event_count;
     uint64_t *states; /* the sum of the state before each event, and of the one after the last */
@@ -303,6 +330,7 @@ void limit_traces(void);
 
 FILE *open_file(const char *name);
 void close_file(FILE *file);
+void keep_files(void);
 void write_traces(void);
 void write_classes(void);
 

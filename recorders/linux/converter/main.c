@@ -4,7 +4,6 @@
 
 #include <errno.h>
 #include <sys/stat.h>
-#include <unistd.h>
 
 static const char usage[] = "usage: convert [-o FOLDER] [--version-1] [--repeats] [--full-names] [--only RE] [--only-module NAME] [--keys N] "
                             "[--most-traces N] [--symbols FILE] [--vmlinux FILE] [--ko FILE]... RAW";
@@ -30,8 +29,8 @@ static void set_only(const char *expression) {
 static unsigned long number_of(const char *option, const char *text) {
     char *end;
     unsigned long number = strtoul(text, &end, 10);
-    if (*end || !number)
-        refuse(option, "needs a number");
+    if (*text < '0' || *text > '9' || *end || !number)
+        refuse(option, "needs a number from 1");
     return number;
 }
 
@@ -71,33 +70,9 @@ static void read_options(int count, char **words) {
         refuse("RAW", usage);
 }
 
-/* Removes the trace that a line of `tasks` names, and its places. */
-static void remove_trace(char *line) {
-    char path[4096];
-    const char *name = strsep(&line, " ");
-    size_t length = strlen(name);
-    if (length < 5 || strcmp(name + length - 4, ".csv") || strchr(name, '/'))
-        return;
-    snprintf(path, sizeof path, "%s/%s", options.folder, name);
-    remove(path);
-    snprintf(path, sizeof path, "%s/%s.places", options.folder, name);
-    remove(path);
-}
-
-/* Removes the traces of an earlier recording, which it listed. */
-static void clear_folder(void) {
-    char path[4096];
-    size_t size;
+static void make_folder(void) {
     if (mkdir(options.folder, 0777) && errno != EEXIST)
         refuse(options.folder, "can't be made");
-    snprintf(path, sizeof path, "%s/RECORDED", options.folder);
-    if (!access(path, F_OK))
-        refuse(options.folder, "has a recording of a program, which would be lost: choose another folder by -o");
-    snprintf(path, sizeof path, "%s/tasks", options.folder);
-    char *list = read_file(path, &size), *rest = list;
-    for (char *line; list && (line = strsep(&rest, "\n"));)
-        remove_trace(line);
-    free(list);
 }
 
 int main(int count, char **words) {
@@ -108,17 +83,20 @@ int main(int count, char **words) {
     learn();
     choose_keys();
     convert();
-    clear_folder();
+    make_folder();
     write_traces();
     write_classes();
-    write_json();
-    FILE *summary = open_file("SUMMARY");
     note_incomplete();
     note_left_out();
+    write_json();
+    FILE *summary = open_file("SUMMARY");
     tell_summary(summary);
     tell_takers(summary);
     tell_reasons(summary);
     close_file(summary);
+    keep_files();
     tell_summary(stdout);
+    if (fflush(stdout) || ferror(stdout))
+        refuse("standard output", "can't be written");
     return tell_faults();
 }

@@ -2,9 +2,29 @@
 #define _GNU_SOURCE
 #include "converter.h"
 
+#define UNFINISHED ".new" /* behind the name of a file until all are written, so that no part is taken for the whole */
+
+static char **made; /* the names of files that are written */
+static size_t made_count;
+
+static void path_of(char *path, size_t room, const char *name, const char *suffix) {
+    snprintf(path, room, "%s/%s%s", options.folder, name, suffix);
+}
+
+static void remove_unfinished(void) {
+    char path[4096];
+    for (size_t number = 0; number < made_count; number++) {
+        path_of(path, sizeof path, made[number], UNFINISHED);
+        remove(path);
+    }
+}
+
 FILE *open_file(const char *name) {
     char path[4096];
-    snprintf(path, sizeof path, "%s/%s", options.folder, name);
+    path_of(path, sizeof path, name, UNFINISHED);
+    if (!made_count)
+        atexit(remove_unfinished);
+    PUSH(made, made_count, checked(strdup(name)));
     FILE *file = fopen(path, "w");
     if (!file)
         refuse(path, "can't be written");
@@ -12,8 +32,30 @@ FILE *open_file(const char *name) {
 }
 
 void close_file(FILE *file) {
-    if (ferror(file) || fclose(file))
-        refuse(options.folder, "can't be written");
+    bool is_failed = ferror(file);
+    if (fclose(file) || is_failed)
+        refuse(options.folder, "can't be written: no trace was made");
+}
+
+static void remove_files(size_t count) {
+    char path[4096];
+    for (size_t number = 0; number < count; number++) {
+        path_of(path, sizeof path, made[number], "");
+        remove(path);
+    }
+}
+
+/* Gives all files their names, or none. */
+void keep_files(void) {
+    char from[4096], to[4096];
+    for (size_t number = 0; number < made_count; number++) {
+        path_of(from, sizeof from, made[number], UNFINISHED);
+        path_of(to, sizeof to, made[number], "");
+        if (rename(from, to)) {
+            remove_files(number);
+            refuse(to, "can't be written: no trace was made");
+        }
+    }
 }
 
 static void write_name(FILE *file, const char *name) {
@@ -133,13 +175,30 @@ static void name_traces(void) {
         name_trace(number, &same);
 }
 
+/* A task's own name to the end of a line: what would end the line is escaped, and so is what escapes. */
+static void write_comm(FILE *file, const char *comm) {
+    for (const unsigned char *byte = (const unsigned char *)comm; *byte; byte++) {
+        if (*byte == '\n')
+            fputs("\\n", file);
+        else if (*byte == '\\')
+            fputs("\\\\", file);
+        else if (*byte < ' ' || *byte == 0x7f)
+            fprintf(file, "\\x%02x", *byte);
+        else
+            fputc(*byte, file);
+    }
+}
+
 /* Lists the tasks that have a trace: its name, the task's pid and name. */
 static void write_list(void) {
     FILE *list = open_file("tasks");
-    for (size_t number = 0; number < task_count; number++)
-        if (has_trace(tasks[number]))
-            fprintf(list, "%s %u %s%s\n", tasks[number]->trace, tasks[number]->pid, tasks[number]->comm,
-                    tasks[number]->is_reader ? " (reads the recording)" : "");
+    for (size_t number = 0; number < task_count; number++) {
+        if (!has_trace(tasks[number]))
+            continue;
+        fprintf(list, "%s %u ", tasks[number]->trace, tasks[number]->pid);
+        write_comm(list, tasks[number]->comm);
+        fputs(tasks[number]->is_reader ? " (reads the recording)\n" : "\n", list);
+    }
     close_file(list);
 }
 

@@ -108,34 +108,83 @@ bool next_item(struct item *item) {
     return true;
 }
 
+static bool is_known_type(const struct lr_record *record) {
+    return record->type <= LR_UNDER && (record->type != LR_NOTHING || told.is_of_text);
+}
+
+/* Counts what a file lost or got in the middle. The numbers of all CPUs' records together are 1, 2, 3 and so on: events that found no room
+   got none. Only text has a record numbered 0, the first one of each CPU. */
+void check_item(const struct item *item) {
+    static uint64_t last;
+    uint64_t number = item->record->number;
+    counts.unknown_types += !is_known_type(item->record);
+    if (number == 0 && told.is_of_text)
+        return;
+    if (number > last) {
+        counts.absent += number - last - 1;
+        last = number;
+    } else {
+        counts.misplaced++;
+    }
+}
+
 /* ---- Whether the recording is whole: what the module wrote, as `control` says, was read. */
 
-bool is_of_text;
-bool is_lockdep_off;
+struct told told = {.symbols = NOT_TOLD, .modules = NOT_TOLD};
+static bool is_cpu_told[MAX_CPUS];
 
-/* Compares one line of `control` with the file of its CPU. The result is whether it is such a line. */
-static bool compare_cpu(const char *line) {
+/* Compares one line of `control` with the file of its CPU. */
+static void compare_cpu(const char *line) {
     unsigned number;
     unsigned long written;
     if (sscanf(line, "cpu%u slots written %lu", &number, &written) != 2 || number >= MAX_CPUS)
-        return false;
+        return;
+    told.is_there = is_cpu_told[number] = true;
     if (cpus[number].slot_count != written)
-        incomplete("the module wrote %lu slots on CPU %u, and %zu are there: was the disk full?", written, number, cpus[number].slot_count);
-    return true;
+        incomplete("records-missing", "the module wrote %lu slots on CPU %u, and %zu are there: was the disk full?", written, number,
+                   cpus[number].slot_count);
+}
+
+/* `symbol ADDRESS NAME`. */
+static void note_landmark(char *line) {
+    strsep(&line, " ");
+    const char *address = strsep(&line, " ");
+    if (!line)
+        return;
+    struct landmark landmark = {strtoull(address, NULL, 16), line};
+    PUSH(told.landmarks, told.landmark_count, landmark);
+}
+
+static void note_line(char *line) {
+    unsigned long bytes, lost;
+    compare_cpu(line);
+    told.is_of_text = told.is_of_text || !strcmp(line, "made of text");
+    told.is_lockdep_off = told.is_lockdep_off || !strcmp(line, "lockdep off");
+    sscanf(line, "text left out %lu", &counts.unproven);
+    if (sscanf(line, "symbols written %lu", &bytes) == 1)
+        told.symbols = bytes;
+    if (sscanf(line, "modules written %lu lost %lu", &bytes, &lost) == 2) {
+        told.modules = bytes;
+        if (lost)
+            incomplete("modules-lost", "there was no room for the symbols of all modules: classes of these may be joined");
+    }
+    if (!strncmp(line, "symbol ", 7))
+        note_landmark(line);
+}
+
+static void find_untold_cpu(void) {
+    for (int number = 0; told.is_there && number < cpu_count; number++)
+        if (cpus[number].is_there && !is_cpu_told[number])
+            incomplete("control-missing", "%.150s/control says nothing of CPU %d, so it isn't known whether all was read", options.raw,
+                       number);
 }
 
 void compare_control(void) {
     size_t size;
-    char *text = read_raw("control", &size), *rest = text;
-    bool is_told = false;
-    for (char *line; text && (line = strsep(&rest, "\n"));) {
-        is_told = compare_cpu(line) || is_told;
-        is_of_text = is_of_text || !strcmp(line, "made of text");
-        is_lockdep_off = is_lockdep_off || !strcmp(line, "lockdep off");
-        if (!strncmp(line, "modules lost ", 13) && strcmp(line + 13, "0"))
-            incomplete("there was no room for the symbols of all modules: classes of these may be joined");
-    }
-    if (!is_told)
-        incomplete("%.150s/control isn't there or says nothing, so it isn't known whether all was read", options.raw);
-    free(text);
+    char *text = read_raw("control", &size);
+    for (char *line; text && (line = strsep(&text, "\n"));)
+        note_line(line);
+    find_untold_cpu();
+    if (!told.is_there)
+        incomplete("control-missing", "%.150s/control isn't there or says nothing, so it isn't known whether all was read", options.raw);
 }

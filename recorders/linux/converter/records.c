@@ -145,12 +145,25 @@ static bool prepare_uncompared(struct task *task, const struct lr_record *record
     return task->level > 0 || !task->is_reader;
 }
 
+/* Whether an operation that was in flight when a task's account began has arrived: which lock it was of isn't known. */
+static bool has_arrived_unseen(const struct task *task, const struct lr_record *record) {
+    return task->is_unsure && task->level == 0 && abs(record->depth - task->held) == 1;
+}
+
+/* At a record of the task itself nothing is in flight; but the end of an interrupt has one, too. */
+static void end_unsure(struct task *task, const struct lr_record *record) {
+    if (task->level == 0 && record->type != LR_ENABLE)
+        task->is_unsure = false;
+}
+
 /* Frames and the book's length, before a record is written. False: the record isn't to be written. */
 static bool prepare(struct task *task, const struct lr_record *record) {
     if (!has_depth(record))
         return prepare_uncompared(task, record);
-    if (task->is_blind && record->depth == 0)
+    if (task->is_blind && record->depth == 0) {
         task->is_blind = false;
+        task->is_unsure = true;
+    }
     if (task->is_blind) {
         counts.blind++;
         return false;
@@ -166,10 +179,19 @@ static bool prepare(struct task *task, const struct lr_record *record) {
     }
     if (task->is_reader && !held_in_frame(task) && !top(task)->is_taking)
         top(task)->difference = record->depth - task->held; /* another interrupt: what was in between isn't recorded */
+    if (has_arrived_unseen(task, record)) {
+        go_blind(task);
+        task->is_blind = record->depth > 0;
+    }
+    if (task->is_blind) {
+        counts.blind++;
+        return false;
+    }
     if (!does_agree(task, record->depth)) {
         mismatch(task);
         return false;
     }
+    end_unsure(task, record);
     counts.agreed++;
     return true;
 }

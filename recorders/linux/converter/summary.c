@@ -41,6 +41,7 @@ void tell_summary(FILE *file) {
     tell(file, counts.gaps, "gaps", false);
     tell(file, counts.taken_in_flight, "acquisitions in flight", false);
     tell(file, counts.given_in_flight, "releases in flight", false);
+    tell(file, counts.untold_interrupts, "interrupts that no tracepoint told of, after an operation in flight", false);
     tell(file, counts.blind, "left out: records of a task whose locks aren't known", false);
     tell(file, counts.unchecked, "left out: acquisitions that lockdep doesn't check", false);
     tell(file, counts.tries, "left out: try acquisitions, which version 1 can't say", false);
@@ -52,7 +53,8 @@ void tell_summary(FILE *file) {
     tell(file, counts.unknown_releases, "releases of locks that the task wasn't seen to take", false);
     tell(file, counts.beyond_limit, "left out: records of tasks whose trace is full", false);
     tell(file, counts.nested, "acquisitions under a nest_lock, by which they are safe", false);
-    tell(file, counts.off, is_of_text ? "records without lockdep's account" : "records after lockdep turned itself off", false);
+    tell(file, counts.off, told.is_of_text ? "records without lockdep's account" : "records after lockdep turned itself off", false);
+    tell(file, counts.unproven, "left out: acquisitions at an end of the text whose release may be missing", false);
     tell(file, counts.alike, "left out: tasks that do what two others do, by which nothing is lost", false);
     tell(file, counts.shared, "tasks that share a trace", false);
     tell(file, counts.untold, "left out: records of a CPU before its task was told", false);
@@ -61,44 +63,53 @@ void tell_summary(FILE *file) {
 
 /* What a recording lacks. */
 void note_incomplete(void) {
-    bool is_off = is_lockdep_off || (counts.off && !is_of_text);
+    bool is_off = told.is_lockdep_off || (counts.off && !told.is_of_text);
     if (counts.lost || counts.gaps)
-        incomplete("%lu records were lost in %lu gaps: the traces may have false orders", counts.lost, counts.gaps);
+        incomplete("lost-records", "%lu records were lost in %lu gaps: the traces may have false orders", counts.lost, counts.gaps);
     if (counts.cut_files)
-        incomplete("a file of the recording ends within a record");
+        incomplete("cut-file", "a file of the recording ends within a record");
+    if (counts.absent || counts.misplaced || counts.unknown_types)
+        incomplete("damaged",
+                   "files of the recording are damaged: by their numbers %lu records are missing and %lu are there twice or misplaced; %lu have "
+                   "no known type",
+                   counts.absent, counts.misplaced, counts.unknown_types);
     if (is_off)
-        incomplete("lockdep turned itself off (dmesg says why): the %lu records since then couldn't be compared with its account", counts.off);
+        incomplete("lockdep-off", "lockdep turned itself off (dmesg says why): the %lu records since then couldn't be compared with its account",
+                   counts.off);
     if (counts.after_lockdep)
-        incomplete("lockdep looked at none of the last %lu events: has it turned itself off?", counts.after_lockdep);
+        incomplete("not-looked-at", "lockdep looked at none of the last %lu events: has it turned itself off?", counts.after_lockdep);
     if (counts.untold)
-        incomplete("of %lu records it isn't known which task they are of", counts.untold);
+        incomplete("untold-task", "of %lu records it isn't known which task they are of", counts.untold);
 }
 
 /* What of the recording isn't in the traces, or may be wrong there. */
 void note_left_out(void) {
     size_t keys = keys_wanted - keys_chosen;
     if (counts.mismatches)
-        incomplete("%lu times the locks held weren't as many as lockdep's: the task was left out until they were", counts.mismatches);
+        incomplete("mismatches", "%lu times the locks held weren't as many as lockdep's: the task was left out until they were",
+                   counts.mismatches);
     if (keys)
-        incomplete("%zu keys were left out, the least used: nothing is known of them; `lockdep check --many` takes %d", keys, DEFAULT_KEYS);
+        incomplete("left-out-keys", "%zu keys were left out, the least used: nothing is known of them; `lockdep check --many` takes %d", keys,
+                   DEFAULT_KEYS);
     if (counts.beyond_limit)
-        incomplete("traces end at %d events", MAX_EVENTS);
+        incomplete("full-trace", "traces end at %d events", MAX_EVENTS);
     if (counts.traces > options.most_traces)
-        incomplete("there are more than %lu traces, since tasks end with a lock held: give check a part of them", options.most_traces);
-    if (is_of_text)
-        incomplete("text doesn't tell subclasses, recursive readers, nest_lock or two classes of one name: there may be false cycles");
+        incomplete("too-many-traces", "there are more than %lu traces, since tasks end with a lock held: give check a part of them",
+                   options.most_traces);
+    if (told.is_of_text)
+        incomplete("text", "text doesn't tell subclasses, recursive readers, nest_lock or two classes of one name: there may be false cycles");
 }
 
 /* The reasons in SUMMARY, where `lockdep confirm` reads them. */
 void tell_reasons(FILE *file) {
     for (int number = 0; number < reason_count; number++)
-        fprintf(file, "incomplete %s\n", reasons[number]);
+        fprintf(file, "incomplete %s\n", reasons[number].text);
 }
 
 /* Says on standard error what the traces lack or get wrong. Returns the status. */
 int tell_faults(void) {
     for (int number = 0; number < reason_count; number++)
-        fprintf(stderr, "convert: %s\n", reasons[number]);
+        fprintf(stderr, "convert: %s\n", reasons[number].text);
     if (!counts.records)
         fputs("convert: nothing was recorded\n", stderr);
     else if (!counts.traces)
@@ -106,12 +117,15 @@ int tell_faults(void) {
     return !counts.traces ? 2 : reason_count > 0;
 }
 
-/* What tells the driver that this is a kernel's recording. */
+/* What tells the driver that this is a kernel's recording, and programs why it is incomplete. */
 void write_json(void) {
     FILE *file = open_file("summary.json");
     fprintf(file,
             "{\"recording\":1,\"recorder\":\"linux\",\"counts\":[\n"
-            "{\"code\":\"records\",\"count\":%lu},\n{\"code\":\"events\",\"count\":%lu}\n],\"unseen\":[]}\n",
+            "{\"code\":\"records\",\"count\":%lu},\n{\"code\":\"events\",\"count\":%lu}\n],\"unseen\":[",
             counts.records, counts.events);
+    for (int number = 0; number < reason_count; number++)
+        fprintf(file, "%s\"%s\"", number ? "," : "", reasons[number].code);
+    fputs("]}\n", file);
     close_file(file);
 }

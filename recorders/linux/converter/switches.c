@@ -79,9 +79,11 @@ static void take_list(struct task *task, struct cpu *cpu) {
 static bool is_lockdep_seen; /* whether an event had a depth */
 
 /* A task's list is from when lockdep turned itself off. It holds for a task that was seen for the first time since, unless that was before
-   the recording. */
+   the recording. An idle task held nothing while another one ran, though its releases aren't seen where its CPU goes offline. */
 static void end_old_switch(struct cpu *cpu) {
     struct task *task = cpu->task;
+    if (task->pid == 0)
+        drop_all(task);
     if (task->is_new && !task->is_reader && is_lockdep_seen && !(cpu->switched->state & (LR_IN_HARDIRQ | LR_IN_SOFTIRQ)))
         take_list(task, cpu);
     task->is_new = false;
@@ -101,6 +103,7 @@ static void end_switch(struct cpu *cpu) {
     cpu->switched = NULL;
     if (task->is_reader || task->is_full)
         return;
+    task->is_unsure = task->is_unsure || task->is_new;
     if (is_interrupt) {
         if (task->is_after_gap || (task->is_new && record->depth > 0))
             go_blind(task);
@@ -206,14 +209,16 @@ static void learn_cpus(void) {
     }
 }
 
-/* The first pass: all names. */
+/* The first pass: all names, and whether each record is there. */
 void learn(void) {
     struct item item;
     learn_cpus();
-    for (begin_items(); next_item(&item);)
+    for (begin_items(); next_item(&item);) {
+        check_item(&item);
         if (item.record->type == LR_NAME)
             learn_name(item.record);
         else if (is_lock(item.record))
             class_of_record(item.record);
+    }
     name_classes();
 }

@@ -87,22 +87,84 @@ static void read_symbols(char *text) {
             add_symbol(line);
 }
 
-/* Symbols of the image and of modules that were loaded before, and then those of modules that were loaded later. */
-void load_symbols(void) {
+/* Compares the size of a file of the recording with what `control` says of it. */
+static void compare_size(const char *name, const char *code, size_t size, size_t written) {
+    if (written == NOT_TOLD)
+        incomplete(code, "the recording doesn't say how large `%s` was, so it isn't known whether all of it is there", name);
+    else if (size != written)
+        incomplete(code, "`%s` had %zu bytes, and %zu are there: classes and callers may be wrong", name, written, size);
+}
+
+static bool has_landmark(const struct landmark *landmark) {
+    for (size_t number = 0; number < symbol_count; number++)
+        if (symbols[number].address == landmark->address && symbols[number].load == NO_LOAD && !strcmp(symbols[number].name, landmark->name))
+            return true;
+    return false;
+}
+
+/* A symbol that isn't where the recorded kernel had it. NULL: there is none. */
+static const struct landmark *misplaced(void) {
+    for (size_t number = 0; number < told.landmark_count; number++)
+        if (!has_landmark(&told.landmarks[number]))
+            return &told.landmarks[number];
+    return NULL;
+}
+
+static void forget_symbols(void) {
+    symbol_count = load_count = 0;
+    image_start = image_end = percpu_start = percpu_end = no_validate = 0;
+}
+
+/* Symbols of another kernel would give classes and callers wrong names: then none is better. */
+static void compare_landmarks(void) {
+    const struct landmark *other = misplaced();
+    if (other) {
+        incomplete("other-symbols",
+                   "the symbols aren't those of the kernel that was recorded, or not all of them, and aren't used: %s isn't at %llx there", other->name,
+                   (unsigned long long)other->address);
+        forget_symbols();
+    } else if (!told.landmark_count) {
+        incomplete("other-symbols",
+                   "the recording doesn't say where any symbol was, so it isn't known whether these symbols are of its kernel");
+    }
+}
+
+/* Symbols of the image and of modules that were loaded before. */
+static void load_image(void) {
     size_t size;
     const char *name = options.symbols ? options.symbols : "the recording's `symbols`";
-    char *text = options.symbols ? read_file(options.symbols, &size) : read_raw("symbols", &size), *modules = read_raw("modules", &size);
+    char *text = options.symbols ? read_file(options.symbols, &size) : read_raw("symbols", &size);
     if (!text && options.symbols)
         refuse(options.symbols, "can't be opened");
+    if (text && told.is_there && !told.is_of_text && !options.symbols)
+        compare_size("symbols", "symbols-cut", size, told.symbols);
     if (text)
         read_symbols(text);
     if (symbol_count && !image_start)
         refuse(name, "has no _text, or root didn't read it");
-    if (!symbol_count && !is_of_text)
-        incomplete("there are no symbols: classes of one name are joined");
-    if (modules)
-        read_symbols(modules);
-    qsort(symbols, symbol_count, sizeof *symbols, by_address);
+    if (!symbol_count && !told.is_of_text)
+        incomplete("no-symbols", "there are no symbols: classes of one name are joined");
+    else if (told.is_there && !told.is_of_text)
+        compare_landmarks();
+}
+
+/* Symbols of modules that were loaded later. */
+static void load_modules(void) {
+    size_t size;
+    char *text = read_raw("modules", &size);
+    if (text)
+        read_symbols(text);
+    else if (told.is_there && !told.is_of_text)
+        incomplete("modules-cut", "`modules` isn't there: classes of one name in modules are joined, and their callers aren't known");
+    if (text && told.is_there && !told.is_of_text)
+        compare_size("modules", "modules-cut", size, told.modules);
+}
+
+void load_symbols(void) {
+    load_image();
+    load_modules();
+    if (symbol_count)
+        qsort(symbols, symbol_count, sizeof *symbols, by_address);
 }
 
 /* Whether a symbol was there at a record. */

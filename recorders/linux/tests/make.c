@@ -13,7 +13,7 @@
    Numbers are hexadecimal, but for CPU, PID, DEPTH, LEFT and COUNT. DEPTH is 255 once lockdep is off. HOW is a mode of the
    trace format, with a subclass behind it (`w1`), `!` if it isn't checked, and `^` if it is under a nest_lock. STATE is
    letters: h and s in a hardirq and softirq, H and S these are on, L lockdep looks, N in an NMI, F a new interrupt, and - for
-   none. Lines with # are left out. */
+   none. COMM may have bytes as \xHH. Lines with # are left out. */
 #include "../record.h"
 
 #include <stdio.h>
@@ -79,10 +79,20 @@ static int write_control(const char *folder) {
     return file && !fclose(file);
 }
 
+/* A task's own name, with the bytes that are written as \xHH. */
+static void read_comm(char *text, const char *comm) {
+    unsigned byte;
+    for (int length = 0; *comm && length < 15; length++) {
+        int is_byte = sscanf(comm, "\\x%2x", &byte) == 1;
+        text[length] = (char)(is_byte ? byte : (unsigned char)*comm);
+        comm += is_byte ? 4 : 1;
+    }
+}
+
 static void write_task(int cpu, unsigned pid, lr_u64 address, const char *comm, const char *state, unsigned depth, char flag) {
     struct lr_record record = {.place = address, .type = LR_TASK, .flags = flag == 'r' ? LR_READER : flag == 'o' ? LR_OFF : 0};
     char text[16] = {0};
-    memcpy(text, comm, strlen(comm) < 15 ? strlen(comm) : 15);
+    read_comm(text, comm);
     memcpy(&record.instance, text, 8);
     memcpy(&record.key, text + 8, 8);
     record.state = state_of(state);
@@ -96,7 +106,7 @@ static int write_line(const char *line) {
     int cpu, from = 0;
     unsigned pid, depth;
     unsigned long long first, second, place = 0;
-    char how[16], state[16], comm[16], last[16] = "";
+    char how[16], state[16], comm[64], last[16] = "";
     if (sscanf(line, "%d", &cpu) != 1 || cpu < 0 || cpu >= CPUS)
         return 0;
     line += strspn(line, "0123456789 ");
@@ -104,7 +114,7 @@ static int write_line(const char *line) {
         write_record(cpu, (struct lr_record){.instance = first, .key = (lr_u64)cpu, .type = LR_CPU});
     else if (sscanf(line, "name %llx %n", &first, &from) == 1 && from)
         write_name(cpu, first, line + from);
-    else if (sscanf(line, "task %u %llx %15s %15s %u %15s", &pid, &first, comm, state, &depth, last) >= 5)
+    else if (sscanf(line, "task %u %llx %63s %15s %u %15s", &pid, &first, comm, state, &depth, last) >= 5)
         write_task(cpu, pid, first, comm, state, depth, *last);
     else if (sscanf(line, "held %llx %llx %15s %u", &first, &second, how, &depth) == 4)
         write_record(cpu, (struct lr_record){
