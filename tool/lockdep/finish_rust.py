@@ -2,42 +2,26 @@
 from __future__ import annotations
 
 import os
-import re
-from itertools import chain
 
-from .finishing import (LOSSES, MOST_KEYS, MOST_NAME, MOST_TRACES, OBJECTS, LockNames, Tally, Trace, is_running, trace_name,
-                        write_classes, write_tasks)
-from .summary import NOTED, Count, Summary
+from .finish_logs import Making, Process as LoggedProcess, Thread as LoggedThread, found_in, lines_of
+from .finishing import MOST_NAME
 
 TYPE_CHECKING = False  # for a tool that checks types, it is true
 if TYPE_CHECKING:
-    from typing import Iterable, Iterator
+    from typing import Callable
+    from .summary import File, Summary
 
-FILE = re.compile(r"([0-9]+)-([0-9]+)(?:-([0-9]+))?")  # TIME-PID of a process, or TIME-PID-NUMBER of a thread
 TARGET = "/target/"  # the folder of a package that Cargo builds in
 MOST_PARTS = 20  # of a path, which tell packages apart
 HASHED = 8  # letters of a long name that its hash takes, with what follows it
-UNKNOWN = "?:0"  # the place of a class that isn't known
-NAMED = "N "  # begins the line with a thread's name
 
 
-def lines_of(path: str) -> Iterator[str]:
-    """The lines of a file, without one that was cut off, as by a full disk. A file that isn't there has none."""
-    try:
-        with open(path, encoding="utf-8", errors="surrogateescape", newline="\n") as file:
-            for line in file:
-                if line.endswith("\n"):
-                    yield line[:-1]
-    except FileNotFoundError:
-        return
-
-
-class Process:
-    """A process: its program, what it counted, and the name and the place of each of its classes."""
+class Process(LoggedProcess):
+    """A process, and its program."""
 
     def __init__(self, raw: str, name: str) -> None:
-        self.name, self.identity = name, name.partition("-")[2]
-        self.program, self.counts = "", {}
+        super().__init__(name)
+        self.program = ""
         for line in lines_of(os.path.join(raw, name)):
             code, _, value = line.partition(" ")
             if code == "program":
@@ -47,14 +31,6 @@ class Process:
         pairs = (line.partition("\t") for line in lines_of(os.path.join(raw, name + "-classes")))
         self.classes = [(class_name, place) for class_name, _, place in pairs]
         self.in_package: dict[str, str] = {}  # the names of classes that other packages have too
-
-
-def found_in(raw: str) -> tuple[list[str], list[str]]:
-    """The files of threads, and the names of the processes, in the order of their beginnings."""
-    names = [match for match in map(FILE.fullmatch, os.listdir(raw)) if match and os.path.isfile(os.path.join(raw, match.group()))]
-    names.sort(key=lambda match: [int(number or 0) for number in match.groups()])
-    processes = list(dict.fromkeys("%s-%s" % match.group(1, 2) for match in names))
-    return [match.group() for match in names if match.group(3)], processes
 
 
 # ---- Packages. A path such as src/main.rs is the same in each: if programs of several packages have such a file, their classes get the package's
@@ -115,21 +91,12 @@ def tell_packages(processes: list[Process]) -> None:
 
 # ---- The traces.
 
-class Thread(Trace):
-    """What a thread did: its trace, and how it ended."""
+class Thread(LoggedThread):
+    """What a thread did."""
 
     def __init__(self, process: Process, number: int, making: Making) -> None:
-        super().__init__()
-        self.process, self.number, self.making = process, number, making
-        self.waits = self.has_ended = False
-
-    def read(self, lines: Iterable[str]) -> None:
-        """Goes on until a line is damaged, as in a file that couldn't be written to its end."""
-        try:
-            for line in lines:
-                self.go_on(line[:1], line)
-        except ValueError:
-            self.making.tally.add("unwritten")
+        super().__init__(number, making)
+        self.process = process
 
     def go_on(self, event: str, line: str) -> None:
         self.has_ended = event == "E"
@@ -149,85 +116,25 @@ class Thread(Trace):
         self.take((name, lock), name, self.making.lock_name(name, int(lock), self.number), mode, [place])
 
 
-class Making:
-    """The traces of all threads, in turn."""
-
-    def __init__(self, path: str, is_several: bool) -> None:
-        self.path, self.is_several = path, is_several
-        self.tally, self.locks = Tally("rust"), LockNames()
-        self.used: list[str] = []  # the classes
-        self.is_used: set[str] = set()
-        self.named: list[tuple[str, int, str]] = []  # the threads that have names: the trace, the process, and the name
-
-    def lock_name(self, name: str, lock: int, process: int) -> str | None:
-        """The name of a lock, or none if there are too many classes."""
-        if name not in self.is_used:
-            if len(self.used) == MOST_KEYS:
-                self.tally.add("beyond-classes")
-                return None
-            self.used.append(name)
-            self.is_used.add(name)
-        return self.locks.name(name, lock, process, "@%d" % process if self.is_several else "")
-
-    def make(self, process: Process, number: int, called: str, lines: Iterable[str]) -> None:
-        if self.tally.numbers.get("threads") == MOST_TRACES:
-            self.tally.add("beyond-traces")
-            return
-        thread = Thread(process, number, self)
-        thread.read(lines)
-        self.tally.add("threads")
-        self.tally.add("events", thread.events())
-        name = trace_name(self.tally.numbers["threads"])
-        self.tally.note_end(name, thread.held_classes(), thread.waits, thread.has_ended)
-        thread.write(self.path, name)
-        self.named.append((name, int(process.identity), called))
-
-
-def still_running(processes: list[Process], path: str) -> int:
-    """How many processes still run and record into this folder."""
-    running = 0
-    for process in processes:
-        try:
-            with open("/proc/%s/environ" % process.identity, "rb") as file:
-                running += is_running(process.identity) and os.fsencode(path) in file.read()
-        except OSError:
-            continue
-    return running
-
-
 def finish(path: str, raw: str) -> Summary:
     """Makes the traces of a recording, by classes and by single locks, with their places, and the list of classes."""
-    os.makedirs(os.path.join(path, OBJECTS), exist_ok=True)
-    threads, names = found_in(raw)
+    threads, names = found_in(raw, "")
     processes = {name: Process(raw, name) for name in names}
     in_order = list(processes.values())
     tell_packages(in_order)
-    making, numbers = Making(path, len(names) > 1), {}
-    for thread in threads:
-        lines = lines_of(os.path.join(raw, thread))
-        first, called = next(lines, None), ""
-        if first is not None and first.startswith(NAMED):
-            first, called = next(lines, None), first[len(NAMED):]
-        if first is not None:
-            name = thread.rpartition("-")[0]
-            making.make(processes[name], numbers.setdefault(name, len(numbers) + 1), called, chain([first], lines))
+    making = Making(path, "rust", len(names) > 1)
+    making.make_all(raw, threads, lambda name, number: Thread(processes[name], number, making))
     places: dict[str, str] = {}
     for process in in_order:
         for name, place in process.classes:
             places.setdefault(process.in_package.get(name, name), place)
-    write_classes(path, [(name, places.get(name, UNKNOWN), "made in") for name in making.used])
-    write_tasks(path, making.named)
-    return summary_of(making, in_order, path)
+    making.write_lists(places)
+    return making.summary(list(processes.values()))
 
 
-def summary_of(making: Making, processes: list[Process], path: str) -> Summary:
-    tally = making.tally
-    for process in processes:
-        for code, number in process.counts.items():
-            tally.add(code, number)
-    tally.numbers["operations"] = max(tally.numbers.get("operations", 0), tally.numbers.get("events", 0))
-    tally.add("still-running", still_running(processes, path))
-    counts = tally.recorded(len(processes), len(making.used)) + tally.counts(NOTED)
-    if not tally.numbers["operations"]:
-        counts.append(Count("unseen " + ("rust-nothing" if processes else "rust-off"), None))
-    return Summary(counts + tally.counts(LOSSES))
+def programs_with(raw: str, is_so: Callable[[str], bool]) -> list[File]:
+    """The programs that were recorded of which something is so."""
+    from .summary import File
+    _, names = found_in(raw, "")
+    found = dict.fromkeys(Process(raw, name).program for name in names)
+    return [File(program) for program in found if program and is_so(program)]

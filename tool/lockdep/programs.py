@@ -5,9 +5,9 @@ from __future__ import annotations
 
 import os
 
-from . import loading, losses
+from . import go_command, loading, losses
 from .processes import find_command, output_of
-from .recorders import RUST_MARK, has, mapped
+from .recorders import GO_MARK, RUST_MARK, has, mapped
 from .seen import modules_of
 from .summary import File, Summary
 
@@ -15,6 +15,7 @@ MOST_BYTES = 100000  # of the words of one command
 HEAD = 65536  # bytes at the beginning of a program, in which the name of its loader is
 RUST_TOOLS = frozenset("cargo rustc rustdoc rustup rustfmt clippy-driver sccache coreutils".split())  # (some systems have coreutils in Rust)
 
+SYSTEM = ("/bin/", "/sbin/", "/lib", "/usr/bin/", "/usr/sbin/", "/usr/lib", "/usr/libexec/")  # whose programs aren't a program's own
 COMMON = ("pthread", "semaphore", "futex")  # kinds of locks that a program of any language may have
 OF_LIBRARIES = ("openmp", "glib")  # kinds of locks that are a library's own, whichever program loads it
 
@@ -192,7 +193,7 @@ class Programs:
     def interpreters_seen(self) -> list[str]:
         """The interpreters whose own locks are among the classes."""
         names = [module.rpartition("/")[2] for module in self.modules]
-        found = ["libpython" for name in names if name.startswith(("python", "libpython"))]
+        found = ["libpython" for name in names if name.startswith(("python", "libpython", "pypy", "libpypy"))]
         return found + ["libjvm" for name in names if name == "libjvm.so"]
 
     def programs_seen(self) -> list[str]:
@@ -208,7 +209,7 @@ def other_programs(kinds: list[tuple[str, str]]) -> list[File]:
     kinds = [(kind, path) for kind, path in kinds
              if kind not in COMMON and kind != "sanitizer" and not (kind in OF_LIBRARIES and is_of_system(path))]
     of_programs = {kind for kind, path in kinds if not is_library(path)}
-    return [File(path, None, kind) for kind, path in kinds
+    return [File(path, None, "go-built" if kind == "go" and has(mapped(path), (GO_MARK,)) else kind) for kind, path in kinds
             if kind == "embed" or kind in OF_LIBRARIES or not is_library(path) or kind not in of_programs]
 
 
@@ -237,6 +238,25 @@ def note_pthreads(summary: Summary, program: str, look: str, is_passed: bool) ->
         linked = linked_files(program)
         found = [path for kind, path in Files(look, linked).kinds(linked) if kind == "pthread"]
         summary.add("passed-pthreads" if is_passed else "other-pthreads", [File(path) for path in found])
+
+
+def note_started(summary: Summary, look: str, started: list[tuple[str, bool]]) -> None:
+    """Counts the programs that a recorded program in Go started and that weren't recorded: those that run Python or Java, and of those outside the
+    system's folders the ones with locks."""
+    told = {os.path.realpath(path): is_told for path, is_told in sorted(started) if os.path.isfile(path) and not go_command.is_go(path)}
+    files = Files(look, list(told))
+    others, pthreads = [], []
+    for path, is_told in told.items():
+        words = files.program(path)
+        language = next((word for word in words if word in losses.OTHER_LANGUAGES), None)
+        if language == "go" and has(mapped(path), (GO_MARK,)):
+            others += [] if is_told else [File(path, None, "go-untold")]
+        elif language and (language != "go" or not path.startswith(SYSTEM)):
+            others.append(File(path, None, language))
+        elif not path.startswith(SYSTEM) and ("pthread", path) in files.kinds([path]):
+            pthreads.append(File(path))
+    summary.add("other-runs", others)
+    summary.add("pthread-runs", pthreads)
 
 
 def is_valgrind(path: str) -> bool:

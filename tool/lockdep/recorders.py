@@ -4,7 +4,7 @@ from __future__ import annotations
 import os
 import sys
 
-from . import loading
+from . import go_command, loading
 from .processes import find_command, output_of
 
 TYPE_CHECKING = False  # for a tool that checks types, it is true
@@ -13,6 +13,8 @@ if TYPE_CHECKING:
 
 FIRST_BYTES = 200  # of a script, which name its interpreter
 RUST_MARK = b"lockdep_record for LOCKDEP_TRACES"  # is in a program that is built to be recorded
+PARKING_LOT = (b"parking_lot9raw_mutex", b"parking_lot10raw_rwlock", b"parking_lot13raw_fair_mutex")  # in names of its functions
+GO_MARK = b"lockdep recorder of Go for LOCKDEP_TRACES"
 EMBED_MARKS = (b"ldr1 lockdep,2", b"ldr_acquire_at")  # is in a program with lockdep_record.h, as it is now and as it was
 FOLDER_MARK = b"LOCKDEP_TRACES"
 
@@ -27,7 +29,6 @@ class Recorder:
     is_in_process = False  # whether the program writes its records itself, so that nothing is preloaded
     sees_handlers = True  # whether it records what signal handlers do, as `--signals` says
     finisher: str | None = None  # what makes the traces, below recorders/, if neither this package nor `finish` of the recorder of pthreads does
-    writes_traces = False  # whether the program writes the traces themselves, into the recording
     script: str | None = None  # what records by itself, below recorders/, if that isn't done by the driver
     holder: str | None = "preloaded"  # what holds threads back for `lockdep provoke`, by its name in provoke_holders.py, if anything does
 
@@ -39,6 +40,14 @@ class Recorder:
         """What the command needs to be recorded."""
         return {"PRELOAD": preload, "LOCKDEP_RECORD": raw}
 
+    def building(self, home: str, program: str, words: list[str]) -> dict[str, str]:
+        """What a command that builds programs needs besides, so that these are recorded."""
+        return {}
+
+    def only_builds(self, words: list[str]) -> bool:
+        """Whether a command builds what is to be recorded later, and runs nothing of it."""
+        return False
+
     def command(self, words: list[str]) -> list[str]:
         """A command as it is run by the recorder that was named."""
         return words
@@ -46,6 +55,10 @@ class Recorder:
     def finish(self, path: str, raw: str) -> Summary | None:
         """Makes the traces in a folder, if this package does that. The result is what was counted."""
         return None
+
+    def note_others(self, raw: str, program: str, summary: Summary, look: str, is_passed: bool) -> None:
+        """Adds what the files of a program that writes its records itself show of locks that this recorder doesn't see. They count as left out
+        unless the recorder was named."""
 
 
 class Python(Recorder):
@@ -85,6 +98,41 @@ class Rust(Recorder):
         from .finish_rust import finish
         return finish(path, raw)
 
+    def note_others(self, raw: str, program: str, summary: Summary, look: str, is_passed: bool) -> None:
+        from .finish_rust import programs_with
+        summary.add("passed-parking-lot" if is_passed else "parking-lot", programs_with(raw, lambda path: has(mapped(path), PARKING_LOT)))
+
+
+class Go(Recorder):
+    name, language, is_in_process, holder = "go", "Go", True, None
+    sees, when = "for sync.Mutex and sync.RWMutex", "it is the command go, or a program that this has built to be recorded"
+    sees_handlers = False
+
+    def recognises(self, command: str) -> bool:
+        """Whether the command is go, or a program that contains the recorder."""
+        return go_command.is_go(command) or has(content(command), (GO_MARK,))
+
+    def environment(self, folder: str, raw: str, preload: str) -> dict[str, str]:
+        return {"PRELOAD": "", "LOCKDEP_TRACES": os.path.dirname(raw)}
+
+    def building(self, home: str, program: str, words: list[str]) -> dict[str, str]:
+        """What go needs. A script may call it, a program that is built already doesn't."""
+        go = program if go_command.is_go(program) else find_command("go")[0]
+        return go_command.environment(home, go, words) if go and not has(mapped(program), (GO_MARK,)) else {}
+
+    def only_builds(self, words: list[str]) -> bool:
+        return go_command.only_builds(words)
+
+    def finish(self, path: str, raw: str) -> Summary | None:
+        from .finish_go import finish
+        return finish(path, raw)
+
+    def note_others(self, raw: str, program: str, summary: Summary, look: str, is_passed: bool) -> None:
+        from .finish_go import started_in
+        from .programs import note_started
+        if not is_passed:
+            note_started(summary, look, started_in(raw))
+
 
 class Java(Recorder):
     name, language, script, holder = "java", "Java", "java/record", "java"
@@ -101,7 +149,7 @@ class Java(Recorder):
 
 
 class Embed(Recorder):
-    name, language, is_in_process, writes_traces, holder = "embed", "lockdep_record.h", True, True, None
+    name, language, is_in_process, holder = "embed", "lockdep_record.h", True, None
     sees = "for a program with lockdep_record.h that writes to the folder LOCKDEP_TRACES"
     when = "it is a program with that header and that name"
     sees_handlers = False
@@ -123,10 +171,14 @@ class Embed(Recorder):
         from .finish_embed import finish
         return finish(path, raw)
 
+    def note_others(self, raw: str, program: str, summary: Summary, look: str, is_passed: bool) -> None:
+        from .programs import note_pthreads
+        note_pthreads(summary, program, look, is_passed)
+
 
 PTHREAD = Recorder()
-RECORDERS = {recorder.name: recorder for recorder in (PTHREAD, Python(), Java(), Rust(), Embed())}
-ORDER = ("python", "rust", "java", "embed")  # in which it is tried whether one recognises a command
+RECORDERS = {recorder.name: recorder for recorder in (PTHREAD, Python(), Java(), Rust(), Go(), Embed())}
+ORDER = ("python", "rust", "go", "java", "embed")  # in which it is tried whether one recognises a command
 
 
 def listed(words: list[str]) -> str:
