@@ -65,7 +65,7 @@ class Process:
     def __init__(self, number, names):
         self.number, self.names, self.pid, self.began = number, names, 0, 0
         self.classes, self.keys, self.places, self.tasks, self.counts = {}, {}, {}, {}, {}
-        self.words, self.starts, self.joins = None, [], None
+        self.words, self.starts, self.joins, self.libraries = None, [], None, []
         self.sources, self.runs, self.reentrant, self.lines = {}, {}, set(), 0
 
     def read(self, path):
@@ -106,6 +106,8 @@ class Process:
         elif kind == "P":
             number, _, text = rest.partition("\t")
             self.places[int(number)] = text
+        elif kind == "D":
+            self.libraries.append(rest)
         elif kind == "N":
             number, _, name = rest.partition("\t")
             self.task(int(number)).name = name
@@ -407,7 +409,10 @@ def write_traces(raw, folder, recorder, is_chosen):
     counts += count_of("unreached-runs", unreached(processes))
     counts += count_of("pthread-runs", [start for start in started if start.kind == starts.PTHREAD], not is_chosen, {})
     counts += count_of("other-runs", [start for start in started if start.kind in OTHERS], not is_chosen)
-    return summaries.Summary(counts + tally.counts(finishing.LOSSES) + of_signals)
+    summary = summaries.Summary(counts + tally.counts(finishing.LOSSES) + of_signals)
+    libraries = dict.fromkeys(path for process in processes for path in process.libraries)
+    summary.add("passed-pthreads" if is_chosen else "other-pthreads", [summaries.File(path) for path in libraries if starts.calls_pthreads(path)])
+    return summary
 
 
 def why_nothing(recorder, tally, processes, used):

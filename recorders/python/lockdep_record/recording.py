@@ -1139,11 +1139,19 @@ def abandon(task):
     task.wish = None
 
 
+at_end = []  # what else there is to write at the end of a process: functions that return lines
+
+
 def end_process():
     """Writes what is left of all tasks, and that the running one has ended. Threads that still run aren't recorded from here on."""
     for task in list(process.tasks):
         count(task)
     put(count_lines())
+    for lines in at_end:
+        try:
+            put(lines())
+        except Exception:  # (never the program's concern)
+            pass
     running = current()
     for task in list(process.tasks):
         if not task.is_busy:

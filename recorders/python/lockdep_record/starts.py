@@ -53,7 +53,7 @@ def file_of(name, cwd, environment):
 
 def is_python_name(path):
     name = os.path.basename(path)
-    return name[:6] == "python" and not name[6:].strip("0123456789.")
+    return any(name.startswith(each) and not name[len(each):].strip("0123456789.") for each in ("python", "pypy"))
 
 
 def kind_of(path):
@@ -67,7 +67,7 @@ def kind_of(path):
         first = file.read(200)
         if first[:2] == b"#!":
             line = first[2:].partition(b"\n")[0]
-            return (PYTHON, os.fsdecode(line)) if b"python" in line else (None, "")
+            return (PYTHON, os.fsdecode(line)) if b"python" in line or b"pypy" in line else (None, "")
         is_noted = first[:4] == b"\x7fELF" and not os.path.realpath(path).startswith(SYSTEM)
         content = first + file.read(MOST_READ) if is_noted else b""
     for mark, kind in MARKS:
@@ -192,9 +192,41 @@ def is_of_popen(frame):
     return frame is not None and frame.f_globals.get("__name__") == "subprocess"
 
 
+# ---- Libraries.
+
+def libraries():
+    """The libraries that are loaded now, but for those of the system's folders and of the interpreter itself."""
+    of_python = os.path.join(os.path.dirname(os.path.realpath(os.__file__)), "lib-dynload") + os.sep
+    found = {}
+    with open("/proc/self/maps", encoding="utf-8", errors="surrogateescape") as file:
+        for line in file:
+            path = line.rstrip("\n").partition("/")
+            path = path[1] + path[2]
+            name = os.path.basename(path)
+            if ".so" in name and not path.startswith(SYSTEM + (of_python,)) and not name.startswith("libpython"):
+                found[path] = True
+    return list(found)
+
+
+def library_lines():
+    """A line for each library, of which `finish` looks whether it calls locks of pthreads."""
+    return "".join("D %s\n" % recording.visible(path) for path in libraries())
+
+
+def calls_pthreads(path):
+    """Whether a file calls locks of pthreads. One that is gone doesn't."""
+    try:
+        with open(path, "rb") as file:
+            content = file.read(MOST_READ)
+    except OSError:
+        return False
+    return any(call in content for call in CALLS)
+
+
 def begin():
     """Notes from here on what this process starts."""
     note_itself()
+    recording.at_end.append(library_lines)
 
     def hears(event, words, noted=NOTED, note_event=note_event):
         if event in noted:

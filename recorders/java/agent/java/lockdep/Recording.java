@@ -36,7 +36,7 @@ public final class Recording {
     private final HashMap<Integer, Integer> like = new HashMap<>();
     private final String[] names = {"operations", "repeats", "retried-tries", "beyond-held", "full-traces",
             "unseen-releases",
-        "interrupted", "alike", "unrewritten"};
+        "interrupted", "alike", "unrewritten", "synchronizers"};
     private final long[] counts = new long[names.length];
     private final long[] told = new long[names.length];
     private int taskCount;
@@ -145,6 +145,13 @@ public final class Recording {
     public static void unrewritten() {
         synchronized (it) {
             it.counts[8]++;
+        }
+    }
+
+    /** A class of the program waits by AbstractQueuedSynchronizer, which isn't recorded. */
+    public static void synchronizer() {
+        synchronized (it) {
+            it.counts[9]++;
         }
     }
 
@@ -321,6 +328,7 @@ public final class Recording {
             for (Task task : recording.tasks) recording.endOrWrite(task);
             StringBuilder lines = new StringBuilder();
             recording.addCounts(lines);
+            Libraries.add(lines);
             recording.put(lines.toString());
             recording.hasEnded = true;
         }

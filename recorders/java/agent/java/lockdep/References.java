@@ -6,91 +6,92 @@ import java.util.concurrent.locks.ReentrantLock;
 import java.util.concurrent.locks.ReentrantReadWriteLock;
 
 /**
- * What references to methods of locks become, such as `lock::unlock`: they need an object of exactly the same class.
+ * What references to methods of locks become, such as `lock::unlock`: they need an object of exactly the same class. The
+ * first word is the place of the reference.
  */
 public final class References {
     private References() {
     }
 
-    public static void lock(Lock lock) {
-        Hooks.lock(lock, 0);
+    public static void lock(int site, Lock lock) {
+        Hooks.lock(lock, site);
     }
 
-    public static void lockInterruptibly(Lock lock) throws InterruptedException {
-        Hooks.lockInterruptibly(lock, 0);
+    public static void lockInterruptibly(int site, Lock lock) throws InterruptedException {
+        Hooks.lockInterruptibly(lock, site);
     }
 
-    public static boolean tryLock(Lock lock) {
-        return Hooks.tryLock(lock, 0);
+    public static boolean tryLock(int site, Lock lock) {
+        return Hooks.tryLock(lock, site);
     }
 
-    public static boolean tryLock(Lock lock, long time, TimeUnit unit) throws InterruptedException {
-        return Hooks.tryLock(lock, time, unit, 0);
+    public static boolean tryLock(int site, Lock lock, long time, TimeUnit unit) throws InterruptedException {
+        return Hooks.tryLock(lock, time, unit, site);
     }
 
-    public static void unlock(Lock lock) {
-        Hooks.unlock(lock, 0);
+    public static void unlock(int site, Lock lock) {
+        Hooks.unlock(lock, site);
     }
 
-    public static void lock(ReentrantLock lock) {
-        Hooks.lock(lock, 0);
+    public static void lock(int site, ReentrantLock lock) {
+        Hooks.lock(lock, site);
     }
 
-    public static void lockInterruptibly(ReentrantLock lock) throws InterruptedException {
-        Hooks.lockInterruptibly(lock, 0);
+    public static void lockInterruptibly(int site, ReentrantLock lock) throws InterruptedException {
+        Hooks.lockInterruptibly(lock, site);
     }
 
-    public static boolean tryLock(ReentrantLock lock) {
-        return Hooks.tryLock(lock, 0);
+    public static boolean tryLock(int site, ReentrantLock lock) {
+        return Hooks.tryLock(lock, site);
     }
 
-    public static boolean tryLock(ReentrantLock lock, long time, TimeUnit unit) throws InterruptedException {
-        return Hooks.tryLock(lock, time, unit, 0);
+    public static boolean tryLock(int site, ReentrantLock lock, long time, TimeUnit unit) throws InterruptedException {
+        return Hooks.tryLock(lock, time, unit, site);
     }
 
-    public static void unlock(ReentrantLock lock) {
-        Hooks.unlock(lock, 0);
+    public static void unlock(int site, ReentrantLock lock) {
+        Hooks.unlock(lock, site);
     }
 
-    public static void lock(ReentrantReadWriteLock.ReadLock lock) {
-        Hooks.lock(lock, 0);
+    public static void lock(int site, ReentrantReadWriteLock.ReadLock lock) {
+        Hooks.lock(lock, site);
     }
 
-    public static void lockInterruptibly(ReentrantReadWriteLock.ReadLock lock) throws InterruptedException {
-        Hooks.lockInterruptibly(lock, 0);
+    public static void lockInterruptibly(int site, ReentrantReadWriteLock.ReadLock lock) throws InterruptedException {
+        Hooks.lockInterruptibly(lock, site);
     }
 
-    public static boolean tryLock(ReentrantReadWriteLock.ReadLock lock) {
-        return Hooks.tryLock(lock, 0);
+    public static boolean tryLock(int site, ReentrantReadWriteLock.ReadLock lock) {
+        return Hooks.tryLock(lock, site);
     }
 
-    public static boolean tryLock(ReentrantReadWriteLock.ReadLock lock, long time, TimeUnit unit)
+    public static boolean tryLock(int site, ReentrantReadWriteLock.ReadLock lock, long time, TimeUnit unit)
             throws InterruptedException {
-        return Hooks.tryLock(lock, time, unit, 0);
+        return Hooks.tryLock(lock, time, unit, site);
     }
 
-    public static void unlock(ReentrantReadWriteLock.ReadLock lock) {
-        Hooks.unlock(lock, 0);
+    public static void unlock(int site, ReentrantReadWriteLock.ReadLock lock) {
+        Hooks.unlock(lock, site);
     }
 
-    public static void lock(ReentrantReadWriteLock.WriteLock lock) {
-        Hooks.lock(lock, 0);
+    public static void lock(int site, ReentrantReadWriteLock.WriteLock lock) {
+        Hooks.lock(lock, site);
     }
 
-    public static void lockInterruptibly(ReentrantReadWriteLock.WriteLock lock) throws InterruptedException {
-        Hooks.lockInterruptibly(lock, 0);
+    public static void lockInterruptibly(int site, ReentrantReadWriteLock.WriteLock lock) throws InterruptedException {
+        Hooks.lockInterruptibly(lock, site);
     }
 
-    public static boolean tryLock(ReentrantReadWriteLock.WriteLock lock) {
-        return Hooks.tryLock(lock, 0);
+    public static boolean tryLock(int site, ReentrantReadWriteLock.WriteLock lock) {
+        return Hooks.tryLock(lock, site);
     }
 
-    public static boolean tryLock(ReentrantReadWriteLock.WriteLock lock, long time, TimeUnit unit)
+    public static boolean tryLock(int site, ReentrantReadWriteLock.WriteLock lock, long time, TimeUnit unit)
             throws InterruptedException {
-        return Hooks.tryLock(lock, time, unit, 0);
+        return Hooks.tryLock(lock, time, unit, site);
     }
 
-    public static void unlock(ReentrantReadWriteLock.WriteLock lock) {
-        Hooks.unlock(lock, 0);
+    public static void unlock(int site, ReentrantReadWriteLock.WriteLock lock) {
+        Hooks.unlock(lock, site);
     }
 }

@@ -16,6 +16,10 @@ final class Hierarchy {
     static final Set<String> LOCK = Set.of(LOCKS + "Lock", LOCKS + "ReentrantLock",
             LOCKS + "ReentrantReadWriteLock$ReadLock",
             LOCKS + "ReentrantReadWriteLock$WriteLock");
+    private static final Set<String> OF_LOCKS = Set.of(LOCKS + "Lock", LOCKS + "ReentrantLock", LOCKS + "ReadWriteLock",
+            LOCKS + "ReentrantReadWriteLock");
+    private static final Set<String> SYNCHRONIZER = Set.of(LOCKS + "AbstractQueuedSynchronizer",
+            LOCKS + "AbstractQueuedLongSynchronizer");
     private static final Set<String> THREAD = Set.of("java/lang/Thread");
     static final int MOST_ABOVE = 16;
 
@@ -26,6 +30,15 @@ final class Hierarchy {
 
     boolean isThread(String name, ClassLoader loader) {
         return isBelow(name, loader, THREAD, MOST_ABOVE);
+    }
+
+    /** Whether a class waits by AbstractQueuedSynchronizer for itself, and not as a part of a Lock, whose calls are recorded. */
+    boolean isSynchronizer(String name, String superName, ClassLoader loader) {
+        if (!isBelow(superName, loader, SYNCHRONIZER, MOST_ABOVE)) return false;
+        for (int end = name.length(); end > 0; end = name.lastIndexOf('$', end - 1)) {
+            if (isBelow(name.substring(0, end), loader, OF_LOCKS, MOST_ABOVE)) return false;
+        }
+        return true;
     }
 
     boolean isBelow(String name, ClassLoader loader, Set<String> wanted, int most) {

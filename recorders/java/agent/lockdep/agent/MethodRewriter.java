@@ -159,8 +159,12 @@ final class MethodRewriter {
         isChanged = true;
     }
 
-    /** References to methods of locks, such as `lock::unlock`, become references to what is called instead. */
+    /**
+     * References to methods of locks, such as `lock::unlock`, become references to what is called instead, which gets their
+     * place first.
+     */
     private void rewriteReferences(InvokeDynamicInsnNode made) {
+        boolean isBound = !made.desc.startsWith("()");
         for (int at = 0; at < made.bsmArgs.length; at++) {
             if (!(made.bsmArgs[at] instanceof Handle)) continue;
             Handle method = (Handle) made.bsmArgs[at];
@@ -168,10 +172,12 @@ final class MethodRewriter {
             if (!isCall || !Calls.isOfLock(method.getOwner(), method.getName(), method.getDesc())) continue;
             String object = Calls.objectOf(made.desc, method.getOwner());
             if (object == null) continue;
-            String descriptor = "(L" + object + ";" + method.getDesc().substring(1);
+            String descriptor = "(IL" + object + ";" + method.getDesc().substring(1);
             made.bsmArgs[at] = new Handle(Opcodes.H_INVOKESTATIC, Calls.REFERENCES, method.getName(), descriptor,
                     false);
-            isChanged = true;
+            made.desc = "(I" + made.desc.substring(1);
+            before(made, isBound ? list(site(), new InsnNode(Opcodes.SWAP)) : list(site()));
+            return;
         }
     }
 

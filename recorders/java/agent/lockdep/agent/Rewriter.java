@@ -96,6 +96,7 @@ final class Rewriter implements ClassFileTransformer {
         reader.accept(type, 0);
         Source source = Source.add(type.name.replace('/', '.'), type.sourceFile, location(domain), firstLine(type),
                 isOfJdk);
+        if (!isOfJdk && hierarchy.isSynchronizer(type.name, type.superName, loader)) Recording.synchronizer();
         Locking locking = new Locking(type, hierarchy, loader, begins("java/lang/StringBuffer", jdk));
         List<MethodRewriter> changed = new ArrayList<>();
         for (MethodNode method : type.methods) {
