@@ -144,7 +144,7 @@ class WhoseLocks(unittest.TestCase):
             self.assertFalse(seen.is_nobodys(name), name)
 
     def test_interpreters(self):
-        for name in ("python3", "python3.11", "libpython3.11.so.1.0", "java", "libjvm.so", "libnio.so"):
+        for name in ("python3", "python3.11", "libpython3.11.so.1.0", "pypy3.9", "libpypy3.9-c.so", "java", "libjvm.so", "libnio.so"):
             self.assertTrue(seen.is_interpreters(name), name)
         for name in ("pythonic", "javac", "libmine.so"):
             self.assertFalse(seen.is_interpreters(name), name)

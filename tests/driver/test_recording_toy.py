@@ -111,7 +111,7 @@ class NewRecorder(unittest.TestCase):
 
     def test_it_is_named_where_a_wrong_one_is(self):
         self.assertEqual(self.record("--recorder", "nosuch", "true"),
-                         (2, "record: --recorder takes pthread, toy, python, java, rust or embed, and not 'nosuch'\n"))
+                         (2, "record: --recorder takes pthread, toy, python, java, rust, go or embed, and not 'nosuch'\n"))
 
     def test_it_is_chosen_by_its_programs_and_is_in_the_help(self):
         text = "import sys; sys.path.insert(0, sys.argv[1]); from lockdep import recorders; print(recorders.recorder_for(sys.argv[2]).name)"
@@ -122,7 +122,7 @@ class NewRecorder(unittest.TestCase):
         with open(os.path.join(self.home, "tool", "help", "run"), encoding="utf-8") as file:
             self.assertIn("toy for those of Toy", file.read())
         with open(os.path.join(self.home, "tool", "completions", "lockdep.bash"), encoding="utf-8") as file:
-            self.assertIn("pthread toy python java rust embed", file.read())
+            self.assertIn("pthread toy python java rust go embed", file.read())
 
 
 if __name__ == "__main__":

@@ -82,6 +82,8 @@ class Records(unittest.TestCase):
 
     def test_a_place_in_words(self):
         self.assertEqual(place_words([source_frame("src/a.c:7 run")]), "run at a.c:7")
+        frame = source_frame("/linux/./drivers/foo/bar.c:12 run")
+        self.assertEqual((frame.words, frame.path), ("run at drivers/foo/bar.c:12", "/linux/drivers/foo/bar.c"))
         self.assertEqual(place_words([source_frame("src/a.c:7")]), "a.c:7")
         self.assertEqual(place_words([source_frame("src/A.java:0 A.pays")]), "A.pays at A.java")
 

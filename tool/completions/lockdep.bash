@@ -11,6 +11,7 @@ _lockdep_options() {
         chains) echo --help ;;
         record) echo -o --recorder --frames --signals --no-wait --version-1 --finish --summary --accept-left-out --help ;;
         confirm) echo --strict --html --sarif --junit --json --help ;;
+        gather) echo -o --list --processes --scheduler --group --skip-bad --accept-left-out --strict --html --sarif --junit --json --help ;;
         where) echo --help ;;
         diff) echo --help ;;
         view) echo -o --sarif --junit --json --known --confirmed --left-out --waiting --help ;;
@@ -18,7 +19,7 @@ _lockdep_options() {
 }
 
 _lockdep() {
-    local word=$2 before=$3 command=${COMP_WORDS[1]} commands='run provoke check explain graph condense chains record confirm where diff view help'
+    local word=$2 before=$3 command=${COMP_WORDS[1]} commands='run provoke check explain graph condense chains record confirm gather where diff view help'
     local place
     # What `-o` names: a folder, or a file for `view`.
     local kind=-d
@@ -60,12 +61,11 @@ _lockdep() {
     esac
     case $before in
         -o) mapfile -t COMPREPLY < <(compgen "$kind" -- "$word") ;;
-        --recorder) mapfile -t COMPREPLY < <(compgen -W 'pthread python java rust embed' -- "$word") ;;
+        --recorder) mapfile -t COMPREPLY < <(compgen -W 'pthread python java rust go embed' -- "$word") ;;
         --frames) mapfile -t COMPREPLY < <(compgen -W '1 2 3 4 6 8 12 16' -- "$word") ;;
         --signals) mapfile -t COMPREPLY < <(compgen -W 'off locks all' -- "$word") ;;
-        --known | --write-known | --stdin | --confirmed) mapfile -t COMPREPLY < <(compgen -f -- "$word") ;;
-        --html | --sarif | --junit | --json) mapfile -t COMPREPLY < <(compgen -W 'files' -- "$word") ;;
-        --accept-left-out | --error-exitcode | --runs | --pause | --finding | --while | --left-out | --waiting) ;;
+        --known | --write-known | --html | --sarif | --junit | --json | --stdin | --list | --confirmed) mapfile -t COMPREPLY < <(compgen -f -- "$word") ;;
+        --accept-left-out | --error-exitcode | --runs | --pause | --finding | --while | --processes | --scheduler | --group | --left-out | --waiting) ;;
         --from | --finish | --summary) mapfile -t COMPREPLY < <(compgen -d -- "$word") ;;
         --workers) mapfile -t COMPREPLY < <(compgen -W '1 2 4 8 16 32 64' -- "$word") ;;
         *)

@@ -30,6 +30,7 @@ ADVICE: dict[str, str] = {
     "unwritten": ON_DISK,
     "still-running": "let these end before the command does",
     "unrewritten": "use a newer ASM, which knows the classes' version",
+    "synchronizers": "look at these by hand, or use a Lock of java.util.concurrent.locks",
     "multiprocessing": "look at these by hand: no recorder sees them",
     "gevent": "record a run with threads in place of greenlets, or look at its other locks by hand",
     "eventlet": "record a run with threads in place of greenlets, or look at its other locks by hand",
@@ -41,6 +42,7 @@ ADVICE: dict[str, str] = {
     "other-programs": ALONE + ", if there is a recorder for them",
     "sanitizer-programs": "record a build without the sanitizer",
     "other-pthreads": "record it once more, with --recorder pthread",
+    "parking-lot": "take these locks from the crate lockdep_record, or look at them by hand",
     "unread-files": "let the program write its traces as task-0001.csv and so on",
     "beyond-events": "record a shorter run, or end a task by ldr_end and begin another one",
     "refused-words": "give names of 1 to 64 bytes, subclasses from 0 to 7, and the modes of lockdep_record.h",
@@ -52,5 +54,6 @@ ADVICE: dict[str, str] = {
     "lost-places": "give ldr_places room for all records",
     "cut-traces": ENDS,
     "unended-traces": ENDS,
+    "ungathered-signals": "look at each of them by `lockdep confirm`, or record with --signals off",
     "unplaced-traces": "write the places of each task to a file",
 }

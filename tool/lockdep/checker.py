@@ -6,6 +6,7 @@ import os
 from .words import Refusal, bytes_of, reason_of, text_of, visible
 
 HOME = os.path.dirname(os.path.dirname(os.path.dirname(os.path.realpath(__file__))))
+SAID_BY = "lockdep: "  # begins its line on standard error
 REFUSED = 2  # the least status with which the program refuses
 
 # How many seconds addr2line and c++filt may take, and how many dot may.
@@ -25,6 +26,12 @@ class Answer:
 
     def __init__(self, output: bytes, status: int, said: bytes) -> None:
         self.output, self.status, self.said = output, status, said
+
+    @property
+    def reason(self) -> str:
+        """Why it refused, in its own words."""
+        first = text_of(self.said).split("\n")[0]
+        return first[len(SAID_BY):] if first.startswith(SAID_BY) else first or "it ended with status %d" % self.status
 
 
 def ask(words: list[str], with_errors: bool = False) -> Answer:

@@ -13,7 +13,7 @@ from .files import STANDARD_OUTPUT, is_file, need_output, print_file
 from .findings import Finding
 from .folder import PAGE, SIGNALS, is_made
 from .kernels import is_of_kernel, why_incomplete
-from .sources import sources_of
+from .sources import Sources, sources_of
 from .terminal import Writer, text_stream
 from .text import Text
 from .verdict import Recorded
@@ -22,6 +22,8 @@ from .words import Refusal, visible
 DEFAULT_FOLDERS = ("lockdep-traces", "traces")
 LISTED = "RECORDED"
 FORMS = {"--html": "html", "--sarif": "sarif", "--junit": "junit", "--json": "json"}
+GATHERED = "GATHERED"  # the mark of a folder that `lockdep gather` made
+OF_GATHER = "%s was made by `lockdep gather`, and is no recording: `lockdep gather -o FOLDER` of it says what is in it"
 RECORD = os.path.join(HOME, "recorders", "pthread", "record")
 
 
@@ -70,10 +72,16 @@ def chosen_folder(folder: str) -> str:
     return next((name for name in DEFAULT_FOLDERS if is_file(os.path.join(name, "SUMMARY"))), DEFAULT_FOLDERS[0])
 
 
+def is_gathered(folder: str) -> bool:
+    return is_file(os.path.join(folder, GATHERED))
+
+
 def check_folder(folder: str) -> None:
     """Refuses a folder whose recording isn't all there."""
     name = visible(folder)
     if not is_file(os.path.join(folder, "SUMMARY")):
+        if is_gathered(folder):
+            raise Refusal(OF_GATHER % name)
         if is_file(os.path.join(folder, "raw", "settings")):
             raise Refusal("%s has a recording whose traces weren't made: `lockdep record --finish` of that folder makes them" % name)
         raise Refusal("%s has no recording" % name)
@@ -95,6 +103,8 @@ def say_summary(folder: str) -> None:
     """What was recorded. If that is nothing of the program's own, there is nothing to check."""
     if is_of_kernel(folder):
         sys.stderr.write("".join("confirm: %s\n" % why for why in why_incomplete(folder)))
+        if not traces_in(folder):
+            raise Refusal("%s has no traces" % visible(folder))
         return
     if subprocess.run([RECORD, "--summary", folder], stdin=subprocess.DEVNULL).returncode > 1:
         raise Refusal(None)
@@ -124,12 +134,17 @@ def depths_in(folder: str, asked: Asked, findings: list[Finding]) -> dict[int, i
 def write_findings(folder: str, asked: Asked, findings: list[Finding], breaches: list[Breach]) -> None:
     recorded = Recorded(asked.traces, text_in(os.path.join(folder, "SUMMARY")))
     recorded.depths = depths_in(folder, asked, findings) if findings and not is_of_kernel(folder) else {}
-    stream = text_stream(sys.stdout.fileno())
-    writer = Writer(stream)
-    writer.line("findings %d" % (sum(not finding.is_note for finding in findings) + len(breaches)))
     sources = sources_of(findings, [folder])
     sources_wanted(breaches, sources)
     sources.ask()
+    write_blocks(findings, breaches, sources, recorded)
+
+
+def write_blocks(findings: list[Finding], breaches: list[Breach], sources: Sources, recorded: Recorded) -> None:
+    """Writes how much was found, and each finding as a block."""
+    stream = text_stream(sys.stdout.fileno())
+    writer = Writer(stream)
+    writer.line("findings %d" % (sum(not finding.is_note for finding in findings) + len(breaches)))
     text = Text(writer, sources, recorded)
     for finding in findings:
         text.finding(finding)

@@ -11,6 +11,7 @@ from .asking import ask_about
 from .blocked import sources_wanted
 from .breaches import breaches_in
 from .checker import HOME
+from .confirm import OF_GATHER, is_gathered
 from .cplusplus import without_parameters
 from .files import need_output, print_file, text_named
 from .findings import Finding, finding_of
@@ -93,6 +94,8 @@ def sides_of_json(name: str) -> list[Side]:
 
 
 def sides_of(name: str) -> list[Side]:
+    if is_gathered(name):
+        raise Refusal(OF_GATHER % visible(name))
     return sides_of_folder(name) if os.path.isdir(name) else sides_of_json(name)
 
 

@@ -15,7 +15,7 @@ from .groups import Group, groups_of
 from .places import traces_of_classes
 from .sources import Sources
 from .verdict import Recorded, remarks_of
-from .words import name_in
+from .words import counted, name_in
 
 if TYPE_CHECKING:
     from .report import Report
@@ -88,6 +88,12 @@ class Found:
     def class_files(self) -> list[str]:
         """The traces of classes, of which the picture is."""
         return traces_of_classes(self.files)
+
+    @property
+    def checked(self) -> str:
+        """What was checked, in words."""
+        traces, events, classes = self.counts()
+        return "%s, %s, %s" % (counted(traces, "trace"), counted(events, "event"), counted(classes, "lock class", "lock classes"))
 
     def counts(self) -> tuple[int, int, int]:
         """How many traces, events and classes were checked: as the recording says, otherwise as the checker does."""

@@ -13,7 +13,10 @@ REASONS: dict[str, str] = {
     "other-machine": "it is a program of another word size or machine than the recorder",
     "other-libc": "its C library is not glibc",
     "alone": "it is started without LD_PRELOAD, as by env -i",
-    "go": "it is written in Go, whose locks are not those of pthreads",
+    "go": "it is written in Go, whose locks are not those of pthreads; those of package sync are seen if it is built by `lockdep record --recorder go "
+          "-- go build`, or run by `lockdep run -- go run`",
+    "go-built": "it is built to be recorded, by `lockdep run --recorder go`",
+    "go-untold": "it is built to be recorded, and was started without LOCKDEP_TRACES in its environment",
     "rust": "it is written in Rust, or a part of it is: locks of Rust are not those of pthreads; `lockdep run --recorder rust` sees them if "
             "the program uses the crate lockdep_record",
     "rust-plain": "it isn't built to be recorded. If it uses the crate lockdep_record, type RUSTFLAGS='--cfg lockdep' lockdep run -- "
@@ -47,6 +50,9 @@ REASONS: dict[str, str] = {
     "rust-nothing": "it took none of the locks of the crate lockdep_record, as if what takes locks uses std::sync itself",
     "rust-off": "nothing that was run is built with the crate lockdep_record and `--cfg lockdep`, as by RUSTFLAGS='--cfg lockdep', or it runs "
                 "without its environment, as by env -i",
+    "go-nothing": "it took no sync.Mutex and no sync.RWMutex",
+    "go-off": "nothing that was run is built to be recorded, as `go run`, `go test` and `lockdep record --recorder go -- go build` build it, or it "
+              "runs without its environment, as by env -i",
     "embed-nothing": "no lock was taken: is ldr_acquire called where locks are taken, and ldr_end or ldr_flush before the end?",
     "embed-off": "nothing wrote a trace, task-0001.csv, to the folder that the environment variable LOCKDEP_TRACES names ({README:embed})",
     "embed-empty": "its traces are empty: call ldr_flush for each task that hangs, as from a watchdog or when SIGINT comes in, and fflush if "
@@ -134,6 +140,7 @@ COUNTS: dict[str, tuple[str, ...]] = {  # several sentences if recorders count d
     "unwritten": ("processes whose recording couldn't be written to its end" + AN_ORDER,),
     "still-running": ("processes that still ran at the end: what they did later isn't recorded",),
     "unrewritten": ("classes of the program's that couldn't be rewritten: what their code does with locks was not recorded",),
+    "synchronizers": ("classes of the program's on AbstractQueuedSynchronizer, and not of a Lock: who waits for their objects wasn't looked at",),
     "multiprocessing": ("locks of multiprocessing: these weren't looked at, so an order among them, or of them with others, is missing",),
     "gevent": ("processes with gevent: only those of its locks that take the place of threading's were looked at",),
     "eventlet": ("processes with eventlet: only those of its locks that take the place of threading's were looked at",),
@@ -145,6 +152,7 @@ COUNTS: dict[str, tuple[str, ...]] = {  # several sentences if recorders count d
     "other-programs": ("programs with locks that are not those of pthreads",),
     "sanitizer-programs": ("programs built with a sanitizer, in which orders may be missed or wrong",),
     "other-pthreads": ("files with locks of pthreads, which were not looked at",),
+    "parking-lot": ("programs with locks of the crate parking_lot, which were not looked at",),
     "unread-files": ("files beside the traces that were not read",),
     "beyond-events": ("calls after 1,000,000 events of a task",),
     "refused-words": ("acquisitions with a name, a subclass or a mode that the format does not have",),
@@ -156,6 +164,7 @@ COUNTS: dict[str, tuple[str, ...]] = {  # several sentences if recorders count d
     "lost-places": ("places of records: source lines will be missing",),
     "cut-traces": ("traces cut off in a record",),
     "unended-traces": ("traces without an end: what was left out of them is not known",),
+    "ungathered-signals": ("recordings with traces of signal handlers, which `gather` doesn't look at: `lockdep confirm` of each does",),
     "unplaced-traces": ("traces without places, which tell the end: what was left out of them is not known",),
 }
 
@@ -180,6 +189,7 @@ NOTES: dict[str, tuple[str, ...]] = {
     "refused-annotations": ("annotations of no lock or no bytes, with a subclass above 7, or without room for them: they were left out",),
     "unknown-annotations": ("annotations that this recorder doesn't know, as of a newer lockdep.h: they were left out",),
     "passed-programs": ("programs with locks that are not those of pthreads",),
+    "passed-parking-lot": ("programs with locks of the crate parking_lot, which were not looked at",),
     "passed-pthreads": ("files with locks of pthreads, which were not looked at",),
 }
 RECORDED = ("processes", "threads", "operations", "events", "classes")
@@ -192,6 +202,7 @@ SENTENCES = {
     "python": {"reentered": 1, "unfollowed-handlers": 1, "threads-alike": 1},
     "java": {"reentered": 1, "threads-alike": 1},
     "rust": {"beyond-traces": 1, "reentered": 2, "unseen-releases": 1, "threads-alike": 2},
+    "go": {"beyond-traces": 1, "unseen-releases": 2},
     "embed": {"lost-threads": 1, "beyond-held": 1, "unseen-releases": 2, "threads-alike": 3},
 }
 

@@ -21,6 +21,9 @@ STATUS = Kind("a number from 1 to 255", "N", 255)
 SIGNALS = Kind("off, locks or all", "WHAT", completed="off locks all")
 RUNS, PAUSE = Kind("a number from 1 to 999", "N", 999), Kind("a number of milliseconds from 1 to 999", "MS", 999)
 FINDING, SHELL = Kind("a number from 1 to 999", "N", 999), Kind("a command of the shell", "COMMAND")
+LIST, ADDRESS = Kind("a file", "FILE", completed="files"), Kind("an address", "ADDRESS")  # (the first may be `-`, standard input)
+PROCESSES, GROUP = Kind("a number from 1 to 999", "N", 999), Kind("a number from 1 to 999", "N", 999)
+RECORDINGS = "recordings"  # the words of a command whose options may stand between its other words
 
 
 class Option:
@@ -141,7 +144,24 @@ PROVOKE = Command("provoke", "make a finding happen", "Makes cycles that were fo
     Option("--stdin", FILE, "what the runs read", "What the runs after the recorded one read from standard input [default: nothing]"),
 ])
 
-COMMANDS = {command.name: command for command in (RUN, RECORD, PROVOKE)}
+GATHER = Command("gather", "check recordings from many machines together", "Checks the recordings of many machines together, and names the recordings that each order comes from",
+                 ("-o FOLDER [OPTIONS] RECORDING...",), RECORDINGS, [
+    Option("-o", FOLDER, "where what is gathered is kept", "Where what is gathered is kept: a new folder, or one that `gather` made, which is replaced"),
+    Option("--list", LIST, "a file that names recordings", "A file that names more recordings, one on each line; `-` is standard input. The option may be given several times"),
+    Option("--processes", PROCESSES, "how many processes read", "How many processes read recordings, from 1 to 999 [default: as many as there are processors]"),
+    Option("--scheduler", ADDRESS, "run it on Dask", "Run it on the workers of this scheduler of Dask, such as tcp://10.0.0.1:8786, instead of processes here. Each has to have the "
+           "recordings and this tool at the same paths"),
+    Option("--group", GROUP, "how many recordings a task reads", "How many recordings a task reads, from 1 to 999 [default: 200]"),
+    Option("--skip-bad", None, "leave out what cannot be judged", "Leave out recordings that can't be judged, are refused or can't be read, and judge the rest. They are named all the same"),
+    ACCEPT,
+    Option("--strict", None, "status 1 only for what was seen between single locks", "The status is 1 only for what was seen between single locks, or isn't known"),
+    Option("--html", OUTPUT, "where the page goes", "Write the findings as a page; FILE may be `-`, standard output, instead of the text"),
+    Option("--sarif", OUTPUT, "write the findings as SARIF", "Write them as SARIF 2.1.0, for code hosts and editors"),
+    Option("--junit", OUTPUT, "write the findings as JUnit", "Write them as JUnit: a failed case for each finding, or a passed one if there is none"),
+    Option("--json", OUTPUT, "write the findings as JSON", "Write them as `lockdep run` does, with the recordings of each order"),
+])
+
+COMMANDS = {command.name: command for command in (RUN, RECORD, PROVOKE, GATHER)}
 
 
 class Help(Exception):
@@ -163,11 +183,14 @@ class Words:
 
 
 def parse(command: Command, words: list[str]) -> Words:
-    """Takes a command's words apart. The options end at the first other word, or behind `--`."""
-    line, at = Words(), 0
-    while at < len(words) and words[at][:1] == "-":
+    """Takes a command's words apart. The options end at the first other word, or behind `--`; those of recordings only there."""
+    line, at, others = Words(), 0, []
+    while at < len(words) and (words[at][:1] == "-" or command.words == RECORDINGS):
         word = words[at]
         at += 1
+        if word[:1] != "-":
+            others.append(word)
+            continue
         if word == "--":
             break
         if word in ("-h", "--help"):
@@ -180,7 +203,7 @@ def parse(command: Command, words: list[str]) -> Words:
             value = words[at] if at < len(words) else ""
             at += 1
         line.values.setdefault(name, []).append(checked(command, option, value))
-    line.rest = words[at:]
+    line.rest = others + words[at:]
     return line
 
 

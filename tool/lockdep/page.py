@@ -73,10 +73,8 @@ def warnings_html(found: Found) -> str:
 
 def header(found: Found) -> str:
     """What was checked, and the findings, one line each."""
-    traces, events, classes = found.counts()
-    said = "<header>\n<h1>%s</h1>\n<p>Checked: %s, %s, %s; on %s, by %s.</p>\n" % (
-        title_of(found), counted(traces, "trace"), counted(events, "event"), counted(classes, "lock class", "lock classes"),
-        time.strftime("%Y-%m-%d %H:%M UTC", moment()), escaped(version()))
+    said = "<header>\n<h1>%s</h1>\n<p>Checked: %s; on %s, by %s.</p>\n" % (
+        title_of(found), found.checked, time.strftime("%Y-%m-%d %H:%M UTC", moment()), escaped(version()))
     said += warnings_html(found)
     if found.known:
         said += "<p>%s left out.</p>\n" % counted(len(found.known), "more known finding is", "more known findings are")

@@ -57,6 +57,10 @@ def main_of(part):
         from lockdep.confirm import main
     elif part == "diff":
         from lockdep.diff import main
+    elif part == "gather":
+        from lockdep.gather import main
+    elif part == "gather-process":
+        from lockdep.gather_engines import do_tasks as main
     elif part == "finish":
         from lockdep.finish_embed import main
     elif part == "refusal":

@@ -73,13 +73,17 @@ def begin(home: str, wishes: Wishes, command: list[str], then: str) -> None:
     program, status = find_command(command[0])
     if program is None:
         raise Refusal("%s: %s" % (command[0], "there is no such command" if status == 127 else "it can't be run"), status)
+    building = recorder.building(home, program, command)
+    if recorder.only_builds(command):
+        write_error("lockdep: this builds what can be recorded, and runs nothing of it: type `lockdep run -- PROGRAM` afterwards")
+        become(command, dict(os.environ, **building))
     folder = Folder(wishes.folder)
     folder.prepare()
     folder.put("settings", Settings(wishes.version, wishes.frames, program, recorder.name, "yes" if wishes.is_named else "",
                                     os.environ.get("LOCKDEP_ALSO", "")).text())
     keep_wrappers(folder.raw)
     preload = "" if recorder.is_in_process or is_of_musl(program) else preloaded(preloadable(home, out, folder))
-    environment = with_asan_after(dict(os.environ, **recorder.environment(wishes.folder, folder.raw, preload)))
+    environment = with_asan_after(dict(os.environ, **recorder.environment(wishes.folder, folder.raw, preload), **building))
     folder.keep_lock()
     # (a process that is left in the background by a program that records itself has its say up to then)
     no_wait = ["--no-wait"] if recorder.is_in_process or not wishes.is_waiting else []

@@ -103,8 +103,10 @@ LISTS: tuple[tuple[tuple[str, ...], str, str, str], ...] = (
     (OTHERS, "these have other locks than those of pthreads, and a report of this recording says nothing of them:", "other-programs",
      "if these don't matter, as tools of a build, `--recorder pthread` has the rest judged"),
     (("sanitizer-programs",), "not everything is seen in these:", "", ""),
+    (("parking-lot", "passed-parking-lot"), "locks of parking_lot weren't looked at, and no recorder sees them. These programs have some:", "parking-lot",
+     "if these don't matter, `--recorder rust` has the rest judged"),
     (("other-pthreads",), "locks of pthreads weren't looked at: `--recorder pthread` sees them. These files take such locks:", "other-pthreads",
-     "if these don't matter, `--recorder embed` has the rest judged"),
+     "if these don't matter, name the recorder of the program's own locks by --recorder, and the rest is judged"),
     (("passed-pthreads",), "locks of pthreads weren't looked at: `--recorder pthread` sees them. These files take such locks:", "", ""),
 )
 # The same of the recorders of Python and Java, which name what was started even if it isn't counted as left out.
@@ -288,5 +290,5 @@ def is_nobodys(name: str) -> bool:
 
 
 def is_interpreters(name: str) -> bool:
-    is_python = name.startswith("libpython") or (name.startswith("python") and not name[len("python"):].strip("0123456789."))
-    return is_python or name == "java" or name in JAVA_LIBRARIES
+    is_python = any(name.startswith(each) and not name[len(each):].strip("0123456789.") for each in ("python", "pypy"))
+    return is_python or name.startswith(("libpython", "libpypy")) or name == "java" or name in JAVA_LIBRARIES

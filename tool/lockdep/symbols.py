@@ -10,8 +10,10 @@ from .cplusplus import short_function
 from .files import is_file
 from .words import CALLED_FROM, bytes_of, text_of
 
-# A place in words: FILE:LINE, and the function if it is known.
+# A place in words: FILE:LINE, and the function if it is known. Of a FILE that has SHOWN_FROM in it what is behind that is shown, as the path
+# below the folder of a kernel's source; otherwise its name.
 PLACE = re.compile(r"(.*?):([0-9]{1,9})(?: (.*))?")
+SHOWN_FROM = "/./"
 WRAPPERS = ("std::", "__gthread", "__gnu_cxx::")
 SYSTEM_HEADERS = ("/usr/include/", "/usr/lib/gcc")
 
@@ -27,11 +29,12 @@ class Frame:
     address: str
     is_wrapper: bool = False
     is_source: bool = False  # a place in words, whose line may be unknown
+    shown: str = ""  # the file, if more of its path is shown than its name
 
     @property
     def words(self) -> str:
         """Such as `pays at abba.c:7`."""
-        place = "%s:%d" % (os.path.basename(self.path), self.line) if self.path else self.address
+        place = "%s:%d" % (self.shown or os.path.basename(self.path), self.line) if self.path else self.address
         joint = "at" if self.path or self.is_source else "in"
         return "%s %s %s" % (self.function, joint, place) if self.function else place
 
@@ -69,7 +72,8 @@ def source_frame(place: str) -> Frame:
     line, path = int(parts[2]), parts[1]
     is_known = line > 0 and bool(path)
     address = "%s:%d" % (path, line) if line > 0 else os.path.basename(path)
-    return Frame(parts[3] or "", os.path.normpath(path) if is_known else "", line if is_known else 0, address, is_source=True)
+    shown = path.partition(SHOWN_FROM)[2]
+    return Frame(parts[3] or "", os.path.normpath(path) if is_known else "", line if is_known else 0, address, is_source=True, shown=shown)
 
 
 @dataclass(frozen=True)

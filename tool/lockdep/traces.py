@@ -71,8 +71,7 @@ def complete(home: str, folder: Folder, settings: Settings, summary: Summary, en
         if not summary.number("processes") and ended in NOT_RUN:
             say_not_run(summary)
         note_taken_over(folder, summary)
-        if recorder.writes_traces:
-            programs.note_pthreads(summary, settings.program, look, is_passed)
+        recorder.note_others(folder.raw, settings.program, summary, look, is_passed)
         summary.drop("started")
         return
     found = programs.Programs(folder.path, folder.raw, settings.program, summary, look, is_passed)

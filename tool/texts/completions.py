@@ -1,7 +1,7 @@
 """The completions for bash, zsh and fish, made from the table of options."""
 from __future__ import annotations
 
-from lockdep.options import FILE, FOLDER, PROVOKE, RECORD, RUN, Command, Kind, Option
+from lockdep.options import PROVOKE, RECORD, RUN, Command, Kind, Option
 from other_commands import ALL
 
 RECORDED = (RUN, PROVOKE, RECORD)  # behind whose options a command follows
@@ -35,7 +35,7 @@ def bash_values() -> str:
     """The cases of options with values. What `-o` names is a folder, or a file for `view`."""
     by_words: dict[str, list[str]] = {}
     for name, (kind, commands) in options_with_values().items():
-        words = "-f" if kind is FILE else "-d" if kind is FOLDER else kind.completed
+        words = "-f" if kind.completed == "files" else "-d" if kind.completed == "folders" else kind.completed
         by_words.setdefault("$kind" if name == "-o" else words, []).append(name)
     return "".join("        %s) %s ;;\n" % (" | ".join(names), bash_case(words)) for words, names in by_words.items()).replace(" ) ", ") ").replace(
         ")  ;;", ") ;;")
@@ -58,13 +58,14 @@ def zsh(template: str) -> str:
 
 
 def zsh_arguments(command: Command) -> str:
-    words = {"command": "'(-)*:::command:_lockdep_command'", "files": "'*:trace:_files'", "file": "'1:trace:_files'", "folder": "'1:folder:_files -/'"}
+    words = {"command": "'(-)*:::command:_lockdep_command'", "files": "'*:trace:_files'", "file": "'1:trace:_files'", "folder": "'1:folder:_files -/'",
+             "recordings": "'*:recording:_files'"}
     parts = ["$help"] + [zsh_option(option) for option in command.options.values()] + [words[command.words]]
     return ("-S " if command in RECORDED else "") + " \\\n                ".join(parts)
 
 
 def zsh_option(option: Option) -> str:
-    many = "*" if option.name in ("--accept-left-out", "--finding") else ""
+    many = "*" if option.name in ("--accept-left-out", "--finding", "--list") else ""
     if option.kind is None:
         return "'%s[%s]'" % (option.name, option.brief)
     return "'%s%s[%s]:%s:%s'" % (many, option.name, option.brief, option.kind.argument.lower() if option.kind.argument != "N" else option.kind.words[2:],
@@ -72,9 +73,9 @@ def zsh_option(option: Option) -> str:
 
 
 def zsh_value(kind: Kind) -> str:
-    if kind is FILE:
+    if kind.completed == "files":
         return "_files"
-    if kind is FOLDER:
+    if kind.completed == "folders":
         return "_files -/"
     return "(%s)" % kind.completed if kind.completed and not kind.most else " "
 
@@ -95,9 +96,9 @@ def fish_option(command: Command, option: Option) -> str:
 def fish_value(kind: Kind | None) -> str:
     if kind is None:
         return ""
-    if kind is FILE:
+    if kind.completed == "files":
         return " -r"
-    if kind is FOLDER:
+    if kind.completed == "folders":
         return " -x -a '(__fish_complete_directories)'"
     return " -x -a '%s'" % kind.completed if kind.completed and not kind.most else " -x"
 

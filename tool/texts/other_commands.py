@@ -1,7 +1,7 @@
 """The commands that the driver doesn't take apart itself, as completions need them: those of the proved program, and those of the other scripts."""
 from __future__ import annotations
 
-from lockdep.options import FILE, PROVOKE, RECORD, RUN, Command, Kind, Option
+from lockdep.options import FILE, GATHER, PROVOKE, RECORD, RUN, Command, Kind, Option
 
 WORKERS_KIND, TEXT = Kind("a number from 1 to 64", "N", 64, "1 2 4 8 16 32 64"), Kind("a text", "TEXT")
 WORKERS = Option("--workers", WORKERS_KIND, "how many workers check the traces, from 1 to 64", "")
@@ -29,6 +29,7 @@ ALL = (
         Option("--strict", None, "status 1 only for what happened or was seen between locks", ""), Option("--html", FILE, "where the page goes", ""),
         Option("--sarif", FILE, "write the findings as SARIF", ""), Option("--junit", FILE, "write the findings as JUnit", ""),
         Option("--json", FILE, "write the findings as JSON", "")]),
+    GATHER,
     command("where", "put source lines under the records of a text", "folder", []),
     command("diff", "say which findings are new in a recording", "files", []),
     command("view", "write what was found as a page to look at, as SARIF, or as JUnit", "files", [

@@ -4,7 +4,7 @@ from __future__ import annotations
 import re
 import textwrap
 
-from lockdep.options import COMMANDS, Command, Option
+from lockdep.options import COMMANDS, RECORDINGS, Command, Option
 
 WIDTH, WIDEST = 120, 26  # of a line of help, and of an option beside its text
 GLUE = "\xa0"  # a space that isn't the end of a line
@@ -74,7 +74,7 @@ def synopsis(command: Command) -> str:
     lines = ['.Nm "lockdep %s"' % command.name]
     lines += [".Op Fl %s%s" % (flag(option), argument(option)) for option in command.options.values()
               if option.name not in alone or option.name == "--frames"]
-    lines += [".Op Fl -" if len(command.usage) > 1 else ".Fl -", ".Ar command ..."]
+    lines += [".Ar recording ..."] if command.words == RECORDINGS else [".Op Fl -" if len(command.usage) > 1 else ".Fl -", ".Ar command ..."]
     for usage in command.usage[1:]:
         lines.append('.Nm "lockdep %s"' % command.name)
         lines += [use(part) for part in re.findall(r"\[[^]]*\](?:\.\.\.)?|--\S+ \S+", usage)]
