@@ -1,7 +1,11 @@
 /* The text of a lock's type: the innermost class on the way to it that isn't a lock itself, and the member. */
 #include "names.h"
 
-bool is_called_lock(const char *name) { return strcasestr(name, "mutex") || strcasestr(name, "lock") || strcasestr(name, "monitor") || strcasestr(name, "critical"); }
+/* By the class's own name: `sink<std::mutex>` isn't one because of what it is a template of. */
+bool is_called_lock(const char *name) {
+    const char *own = written("%.*s", (int)strcspn(name, "<"), name);
+    return strcasestr(own, "mutex") || strcasestr(own, "lock") || strcasestr(own, "monitor") || strcasestr(own, "critical");
+}
 
 static bool is_of_lock(const struct step *step) { return is_lock_class(step->type); }
 
