@@ -13,7 +13,8 @@ bool lock_in_piece(Dwarf_Die type, struct path *path) {
     if (!peel(&type, &is_lock) || is_lock || !define(&type) || !is_class(dwarf_tag(&type)))
         return false;
     uint64_t size = size_of(&type);
-    return fits_piece(size) && (offset < size || look->piece_bytes % size == 0) && find_lock(type, offset % size, path);
+    bool is_whole = size && look->piece_bytes % size == 0;
+    return fits_piece(size) && (offset < size || is_whole) && (is_whole ? find_lock_in_whole : find_lock)(type, offset % size, path);
 }
 
 static bool fits(Dwarf_Die type, struct found *found, enum rule rule) {

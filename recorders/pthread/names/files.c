@@ -93,8 +93,6 @@ const char *after_path(const char *text) {
     return mark ? mark + 1 : text;
 }
 
-#define ANONYMOUS "{anonymous}::"
-
 /* A type of a header is the same in all files, a static variable never is. */
 const char *file_mark(Dwarf_Die *die, const char *qualified_name) {
     const char *path = file_of(die);

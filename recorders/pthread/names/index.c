@@ -113,13 +113,8 @@ static size_t first_named(const struct module *m, const char *name) {
     return low;
 }
 
-bool index_die(Dwarf_Die *type) {
-    struct module *m = module_of_die(type);
-    const char *name = name_of(type);
-    if (!m || !name)
-        return false;
+static bool defined_in(struct module *m, const char *name, const char *wanted, Dwarf_Die *type) {
     index_module(m);
-    const char *wanted = qualified(type);
     for (size_t i = first_named(m, name); i < m->type_count && strcmp(m->types[i].name, name) == 0; i++) {
         Dwarf_Die die = m->types[i].die;
         if (strcmp(qualified(&die), wanted) == 0) {
@@ -128,4 +123,51 @@ bool index_die(Dwarf_Die *type) {
         }
     }
     return false;
+}
+
+#define C_PLUS_PLUS_17 0x2b /* languages that an older header doesn't know */
+#define C_PLUS_PLUS_20 0x2c
+
+/* Whether a class of that name is the same one in all modules of a program: one of C++ that isn't a file's own. */
+static bool is_of_all_modules(Dwarf_Die *type, const char *wanted) {
+    Dwarf_Die unit;
+    if (strstr(wanted, ANONYMOUS) || !dwarf_diecu(type, &unit, NULL, NULL))
+        return false;
+    switch (dwarf_srclang(&unit)) {
+    case DW_LANG_C_plus_plus:
+    case DW_LANG_C_plus_plus_03:
+    case DW_LANG_C_plus_plus_11:
+    case DW_LANG_C_plus_plus_14:
+    case C_PLUS_PLUS_17:
+    case C_PLUS_PLUS_20:
+        return true;
+    default:
+        return false;
+    }
+}
+
+/* A library may define what the program only declares. Definitions that differ are none. */
+static bool defined_elsewhere(const struct module *m, const char *name, const char *wanted, Dwarf_Die *type) {
+    Dwarf_Die found;
+    uint64_t size = 0;
+    for (uint32_t i = 1; i <= count_of(RAW_MODULES); i++) {
+        const struct loaded *in = loaded_numbered(i);
+        if (!in || in->module == m || is_recorder(in->module) || !defined_in(in->module, name, wanted, &found))
+            continue;
+        if (size && size_of(&found) != size)
+            return false;
+        size = size_of(&found);
+    }
+    if (size)
+        *type = found;
+    return size != 0;
+}
+
+bool index_die(Dwarf_Die *type) {
+    struct module *m = module_of_die(type);
+    const char *name = name_of(type);
+    if (!m || !name)
+        return false;
+    const char *wanted = qualified(type);
+    return defined_in(m, name, wanted, type) || (is_of_all_modules(type, wanted) && defined_elsewhere(m, name, wanted, type));
 }

@@ -118,6 +118,7 @@ bool is_of_library(const char *qualified_name);
 const char *file_mark(Dwarf_Die *die, const char *qualified_name); /* `store.cpp:` after its path, where another file may use the name too, else empty */
 const char *after_path(const char *text); /* the text without that path */
 void read_sources(struct module *m);
+#define ANONYMOUS "{anonymous}::" /* the scope of what is a file's own, in a name */
 const char *without_anonymous(const char *qualified_name);
 
 /* ---- types.c */
@@ -137,6 +138,7 @@ bool peel(Dwarf_Die *type, bool *is_lock); /* takes off typedefs and the like */
 bool define(Dwarf_Die *type);              /* finds the definition of what is only declared */
 uint64_t size_of(Dwarf_Die *type);
 bool find_lock(Dwarf_Die type, uint64_t offset, struct path *path); /* the lock that begins exactly there */
+bool find_lock_in_whole(Dwarf_Die type, uint64_t offset, struct path *path); /* in an object that isn't a base of a larger one */
 extern bool is_union_unclear; /* set if several members of a union have locks there, and so none was found */
 
 /* ---- texts.c */

@@ -13,7 +13,9 @@ bool has_lock(Dwarf_Die type, uint64_t at, struct found *found, bool *is_bare) {
         *is_bare = at == look->lock;
         return false;
     }
-    if (!define(&type) || look->lock - at >= size_of(&type) || !find_lock(type, look->lock - at, &path))
+    uint64_t size = define(&type) ? size_of(&type) : 0;
+    bool is_whole = at == look->piece && size == look->piece_bytes;
+    if (look->lock - at >= size || !(is_whole ? find_lock_in_whole : find_lock)(type, look->lock - at, &path))
         return false;
     found->text = text_of(&path);
     if (!found->text && !weak_text)

@@ -52,6 +52,8 @@ bool define(Dwarf_Die *type) {
 
 /* ---- The way to a lock. */
 
+static bool find_in(Dwarf_Die type, uint64_t offset, bool is_whole, struct path *path);
+
 static bool find_in_array(Dwarf_Die type, uint64_t offset, struct path *path) {
     Dwarf_Die element, peeled;
     bool is_lock;
@@ -65,7 +67,7 @@ static bool find_in_array(Dwarf_Die type, uint64_t offset, struct path *path) {
         return false;
     if (path->count)
         path->steps[path->count - 1].is_array = true;
-    return find_lock(element, offset % size, path);
+    return find_in(element, offset % size, true, path);
 }
 
 /* Bytes in which the C++ library has an object of its argument. */
@@ -78,7 +80,7 @@ static bool is_part(Dwarf_Die *die) {
     return (tag == DW_TAG_member || tag == DW_TAG_inheritance) && !flag_of(die, DW_AT_external) && !flag_of(die, DW_AT_declaration);
 }
 
-/* Where a member is. The place of a virtual base is an expression, which isn't evaluated. */
+/* Where a member is. The place of a virtual base is an expression, which would need the object. */
 static bool place_of_part(Dwarf_Die *part, uint64_t *at) {
     Dwarf_Attribute a;
     Dwarf_Word word = 0;
@@ -93,9 +95,9 @@ static bool find_in_part(Dwarf_Die type, Dwarf_Die *part, uint64_t offset, struc
     uint64_t at;
     if (!is_part(part) || !place_of_part(part, &at) || at > offset || !type_of(part, &part_type))
         return false;
-    const char *name = dwarf_tag(part) == DW_TAG_inheritance ? "" : name_of(part);
-    path->steps[path->count++] = (struct step){type, name, false};
-    return find_lock(part_type, offset - at, path);
+    bool is_base = dwarf_tag(part) == DW_TAG_inheritance;
+    path->steps[path->count++] = (struct step){type, is_base ? "" : name_of(part), false};
+    return find_in(part_type, offset - at, !is_base, path);
 }
 
 static bool is_same_text(const char *a, const char *b) { return a && b ? strcmp(a, b) == 0 : a == b; }
@@ -124,7 +126,48 @@ static bool find_in_class(Dwarf_Die type, uint64_t offset, struct path *path) {
     return is_found;
 }
 
-bool find_lock(Dwarf_Die type, uint64_t offset, struct path *path) {
+struct virtual_base {
+    Dwarf_Die type;
+    bool is_there, is_alone; /* not beside another one */
+};
+
+#define DEEPEST_BASE 3
+
+/* Looks for the virtual bases of a class and of its bases. */
+static void note_virtual_bases(Dwarf_Die type, struct virtual_base *found, int depth) {
+    Dwarf_Die part, base;
+    bool is_lock;
+    if (depth > DEEPEST_BASE)
+        found->is_alone = false;
+    if (depth > DEEPEST_BASE || dwarf_child(&type, &part) != 0)
+        return;
+    do {
+        if (dwarf_tag(&part) != DW_TAG_inheritance || !type_of(&part, &base) || !peel(&base, &is_lock) || is_lock || !define(&base))
+            continue;
+        if (number_of(&part, DW_AT_virtuality, 0)) {
+            found->is_alone = found->is_alone && (!found->is_there || found->type.addr == base.addr);
+            found->type = base;
+            found->is_there = true;
+        }
+        note_virtual_bases(base, found, depth + 1);
+    } while (dwarf_siblingof(&part, &part) == 0);
+}
+
+/* Virtual bases are the last parts of an object that isn't a base itself. If there is only one, it ends where the object ends. */
+static bool find_in_virtual_base(Dwarf_Die type, uint64_t offset, struct path *path) {
+    struct virtual_base base = {.is_alone = true};
+    note_virtual_bases(type, &base, 0);
+    if (!base.is_there || !base.is_alone)
+        return false;
+    uint64_t size = size_of(&base.type), at = size_of(&type) - size;
+    if (!size || offset < at || path->count == DEEPEST_PATH)
+        return false;
+    path->steps[path->count++] = (struct step){type, "", false};
+    return find_in(base.type, offset - at, false, path);
+}
+
+/* A whole object is one that isn't a base of a larger one. */
+static bool find_in(Dwarf_Die type, uint64_t offset, bool is_whole, struct path *path) {
     Dwarf_Die argument;
     bool is_lock;
     if (!peel(&type, &is_lock))
@@ -136,14 +179,17 @@ bool find_lock(Dwarf_Die type, uint64_t offset, struct path *path) {
     if (!is_class(dwarf_tag(&type)) || !define(&type) || offset >= size_of(&type) || path->count == DEEPEST_PATH)
         return false;
     if (is_buffer(name_of(&type)))
-        return template_argument(&type, &argument) && find_lock(argument, offset, path);
-    return find_in_class(type, offset, path);
+        return template_argument(&type, &argument) && find_in(argument, offset, true, path);
+    return find_in_class(type, offset, path) || (is_whole && find_in_virtual_base(type, offset, path));
 }
+
+bool find_lock(Dwarf_Die type, uint64_t offset, struct path *path) { return find_in(type, offset, false, path); }
+
+bool find_lock_in_whole(Dwarf_Die type, uint64_t offset, struct path *path) { return find_in(type, offset, true, path); }
 
 /* ---- Classes that are locks themselves. */
 
 #define DEEPEST_CLASS 6
-#define DEEPEST_BASE 3
 
 static int count_locks(Dwarf_Die type, int depth);
 

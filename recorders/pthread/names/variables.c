@@ -13,7 +13,7 @@ static bool lock_in(Dwarf_Die type, uint64_t offset, struct found *found) {
     if (!peel(&peeled, &is_lock) || !define(&peeled))
         return false;
     uint64_t size = is_lock ? 1 : size_of(dwarf_tag(&peeled) == DW_TAG_array_type ? &type : &peeled);
-    if (offset >= size || !find_lock(type, offset, &path))
+    if (offset >= size || !find_lock_in_whole(type, offset, &path))
         return false;
     found->text = text_of(&path);
     return true;
