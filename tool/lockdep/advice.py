@@ -32,6 +32,7 @@ ADVICE: dict[str, str] = {
     "unrewritten": "use a newer ASM, which knows the classes' version",
     "synchronizers": "look at these by hand, or use a Lock of java.util.concurrent.locks",
     "multiprocessing": "look at these by hand: no recorder sees them",
+    "unguarded": "give this Python its lock, by PYTHON_GIL=1 in the environment",
     "gevent": "record a run with threads in place of greenlets, or look at its other locks by hand",
     "eventlet": "record a run with threads in place of greenlets, or look at its other locks by hand",
     "library-only": "record a run in which the program takes locks of its own",

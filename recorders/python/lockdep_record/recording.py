@@ -974,7 +974,9 @@ class Process:
     def __init__(self, folder, is_left_out):
         self.folder, self.tasks, self.common = folder, set(), Way(None)
         self.counts = dict.fromkeys(("reentered", "beyond-held", "full-traces", "unseen-releases", "repeats", "retried-tries",
-                                     "interrupted", "alike", "operations", "multiprocessing", "gevent", "eventlet", "unfollowed-handlers"), 0)
+                                     "interrupted", "alike", "operations", "multiprocessing", "gevent", "eventlet", "unfollowed-handlers",
+                                     "unguarded"), 0)
+        self.note_unguarded()
         self.told, self.written, self.like, self.task_numbers = {}, {}, {}, counting(1)
         self.places, self.place_numbers, self.pid = {}, counting(1), os.getpid()
         self.broken_off = deque(maxlen=MOST_BROKEN_OFF)
@@ -993,7 +995,13 @@ class Process:
     def path_of(self, number):
         return os.path.join(self.folder, "%d-%d" % (self.pid, number))
 
+    def note_unguarded(self):
+        """Notes whether this Python runs without its global lock. A module that it loads may turn that on."""
+        if has_global_lock is not None and not has_global_lock():
+            self.counts["unguarded"] = 1
 
+
+has_global_lock = getattr(sys, "_is_gil_enabled", None)  # (since Python 3.13; the recorder's own tables rely on it)
 process = None
 LEFT_OUT = None  # the holder of a lock whose acquisition isn't in a trace
 
@@ -1146,6 +1154,7 @@ def end_process():
     """Writes what is left of all tasks, and that the running one has ended. Threads that still run aren't recorded from here on."""
     for task in list(process.tasks):
         count(task)
+    process.note_unguarded()
     put(count_lines())
     for lines in at_end:
         try:
