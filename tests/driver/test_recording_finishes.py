@@ -73,6 +73,33 @@ class Rust(Room):
         self.assertEqual(summary.text_of(self.rust()), "processes 1\nthreads 2\noperations 2\nevents 2\nclasses 1\n"
                          "unwritten 1\n  processes whose recording couldn't be written to its end: an order among them may be missing\n")
 
+    def test_threads_that_are_joined(self):
+        self.put(ONE, "operations 4\n")
+        self.put(ONE + "-classes", "m.rs:1:2\tm.rs:1\nthread:m.rs:9:9\tm.rs:9\n")
+        self.put(ONE + "-1", "A m.rs:1:2 1 w m.rs:7\nW thread:m.rs:9:9 1 w m.rs:8\nG\nR thread:m.rs:9:9 1\nA thread:m.rs:9:9 1 e m.rs:8\n"
+                 "R thread:m.rs:9:9 1\nA thread:m.rs:9:9 2 w m.rs:8\nR thread:m.rs:9:9 2\nR m.rs:1:2 1\nE\n")
+        self.put(ONE + "-2", "T thread:m.rs:9:9 1\nA m.rs:1:2 1 w m.rs:5\nR m.rs:1:2 1\nE\n")
+        self.put(ONE + "-3", "T thread:m.rs:9:9 2\nA thread:m.rs:9:9 3 w m.rs:6\nR thread:m.rs:9:9 3\nE\n")
+        # the third thread joins one that takes nothing, so nobody waits for it with a lock held that it needs
+        self.assertEqual(summary.text_of(self.rust()), "processes 1\nthreads 2\noperations 4\nevents 10\nclasses 2\n")
+        joins = "acq,thread:m.rs:9:9,0,w\nrel,thread:m.rs:9:9,0\n"
+        self.assertEqual(self.text("task-0001.csv"), "lockdep,2\nacq,m.rs:1:2,0,w\n%srel,m.rs:1:2,0\n" % (2 * joins))
+        self.assertEqual(self.text("objects", "task-0002.csv"),
+                         "lockdep,2\nacq,thread:m.rs:9:9#1,0,w\nacq,m.rs:1:2#1,0,w\nrel,m.rs:1:2#1,0\nrel,thread:m.rs:9:9#1,0\n")
+        self.assertEqual(self.text("weak"), "task-0001.csv 5 ended-thread\n")
+        self.assertEqual(self.text("classes"), "m.rs:1:2\tm.rs:1\t-\tmade in\nthread:m.rs:9:9\tm.rs:9\t-\tstarted\n")
+
+    def test_who_waits_for_a_thread_that_waits(self):
+        self.put(ONE, "operations 4\n")
+        self.put(ONE + "-classes", "m.rs:1:2\tm.rs:1\nthread:m.rs:9:9\tm.rs:9\n")
+        self.put(ONE + "-1", "A m.rs:1:2 1 w m.rs:7\nW thread:m.rs:9:9 1 w m.rs:8\n")
+        self.put(ONE + "-2", "T thread:m.rs:9:9 1\nW m.rs:1:2 1 w m.rs:5\n")
+        self.assertEqual(summary.text_of(self.rust()), "processes 1\nthreads 2\noperations 4\nevents 4\nclasses 2\n"
+                         "waiting 2\n  task-0001 waits for thread:m.rs:9:9, holding m.rs:1:2\n  task-0002 waits for m.rs:1:2\n")
+        # a thread that goes on may yet end
+        self.put(ONE + "-2", "T thread:m.rs:9:9 1\nW m.rs:1:2 1 w m.rs:5\nG\nR m.rs:1:2 1\n")
+        self.assertNotIn("waiting", summary.text_of(self.rust()))
+
     def test_limits(self):
         self.put(ONE, "operations 0\n")
         for thread in range(1, finishing.MOST_TRACES + 3):

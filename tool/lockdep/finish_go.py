@@ -6,7 +6,7 @@ import os
 import re
 import struct
 
-from .finish_logs import Making, Process as LoggedProcess, Thread as LoggedThread, found_in, lines_of
+from .finish_logs import Making, Process as LoggedProcess, Thread as LoggedThread, found_in, lines_of, process_of
 from .losses import words_of
 from .summary import Count
 
@@ -128,7 +128,7 @@ def finish(path: str, raw: str) -> Summary:
     threads, names = found_in(raw, "-counts")
     processes = {name: Process(raw, name) for name in names}
     making = Making(path, "go", len(names) > 1)
-    making.make_all(raw, threads, lambda name, number: Thread(processes[name], number, making))
+    making.make_all(raw, threads, lambda file, number: Thread(processes[process_of(file)], number, making))
     places: dict[str, str] = {}
     for process in processes.values():
         for name, place in process.classes:

@@ -5,7 +5,9 @@ from __future__ import annotations
 import os
 import re
 
-from .finishing import (LOSSES, MOST_KEYS, MOST_TRACES, OBJECTS, LockNames, Tally, Trace, is_running, trace_name, write_classes, write_tasks)
+from .finishing import (LOSSES, MOST_KEYS, MOST_TRACES, OBJECTS, LockNames, Tally, Trace, is_running, trace_name, write_classes, write_tasks,
+                        write_weak)
+from .joins import STARTED, THREAD
 from .summary import NOTED, Count, Summary
 
 TYPE_CHECKING = False  # for a tool that checks types, it is true
@@ -37,6 +39,11 @@ def found_in(raw: str, of_process: str) -> tuple[list[str], list[str]]:
     return [match.group() for match in names if match.group(3)], processes
 
 
+def process_of(file: str) -> str:
+    """The process whose thread has this file."""
+    return file.rpartition("-")[0]
+
+
 class Process:
     """A process: what it counted, and the name and the place of each of its classes."""
 
@@ -53,6 +60,7 @@ class Thread(Trace):
         super().__init__()
         self.number, self.making = number, making
         self.waits = self.has_ended = False
+        self.uncounted = 0  # records that are no operations
 
     def read(self, lines: Iterator[str]) -> None:
         """Goes on until a line is damaged, as in a file that couldn't be written to its end."""
@@ -70,6 +78,10 @@ class Thread(Trace):
     def end(self) -> None:
         """Follows the last line."""
 
+    def is_nothing(self) -> bool:
+        """Whether nothing of it is to be written."""
+        return False
+
 
 class Making:
     """The traces of all threads, in turn."""
@@ -80,6 +92,8 @@ class Making:
         self.used: list[str] = []  # the classes
         self.is_used: set[str] = set()
         self.named: list[tuple[str, int, str]] = []  # the threads that have names: the trace, the process, and the name
+        self.weak: list[tuple[str, list[str]]] = []  # the acquisitions of each trace that are weak
+        self.uncounted = 0
 
     def lock_name(self, name: str, lock: int, process: int) -> str | None:
         """The name of a lock, or none if there are too many classes."""
@@ -103,27 +117,32 @@ class Making:
             self.tally.add("beyond-traces")
             return
         thread.read(chain([first], lines))
+        if thread.is_nothing():
+            return
         self.tally.add("threads")
         self.tally.add("events", thread.events())
+        self.uncounted += thread.uncounted
         name = trace_name(self.tally.numbers["threads"])
         self.tally.note_end(name, thread.held_classes(), thread.waits, thread.has_ended)
         thread.write(self.path, name)
+        self.weak.append((name, thread.weak))
         self.named.append((name, int(identity), called))
 
     def make_all(self, raw: str, threads: list[str], thread_of: Callable[[str, int], Thread]) -> None:
-        """Makes all traces: `thread_of` begins one, of a process by its name and its number among those that have traces."""
+        """Makes all traces: `thread_of` begins one by its file, with the number of its process among those that have traces."""
         os.makedirs(os.path.join(self.path, OBJECTS), exist_ok=True)
         numbers: dict[str, int] = {}
         for file in threads:
-            process = file.rpartition("-")[0]
-            thread = thread_of(process, numbers.setdefault(process, len(numbers) + 1))
+            process = process_of(file)
+            thread = thread_of(file, numbers.setdefault(process, len(numbers) + 1))
             self.make(thread, process.partition("-")[2], lines_of(os.path.join(raw, file)))
 
     def write_lists(self, places: dict[str, str]) -> None:
-        """Writes the lists of classes and of tasks. A class whose place is empty says by its name where it is."""
+        """Writes the lists of classes, of tasks, and of weak acquisitions. A class whose place is empty says by its name where it is."""
         known = [(name, places.get(name, UNKNOWN)) for name in self.used]
-        write_classes(self.path, [(name, place, "made in") for name, place in known if place])
+        write_classes(self.path, [(name, place, STARTED if name.startswith(THREAD) else "made in") for name, place in known if place])
         write_tasks(self.path, self.named)
+        write_weak(self.path, self.weak)
 
     def summary(self, processes: list[Process]) -> Summary:
         """What was counted. If nothing was seen, the reason is RECORDER-nothing, or RECORDER-off if nothing was recorded."""
@@ -131,7 +150,7 @@ class Making:
         for process in processes:
             for code, number in process.counts.items():
                 tally.add(code, number)
-        tally.numbers["operations"] = max(tally.numbers.get("operations", 0), tally.numbers.get("events", 0))
+        tally.numbers["operations"] = max(tally.numbers.get("operations", 0), tally.numbers.get("events", 0) - self.uncounted)
         tally.add("still-running", still_running(processes, self.path))
         counts = tally.recorded(len(processes), len(self.used)) + tally.counts(NOTED)
         if not tally.numbers["operations"]:

@@ -133,9 +133,9 @@ def write_tasks(folder: str, tasks: list[tuple[str, int, str]]) -> None:
     write_lines(os.path.join(folder, TASKS), ["%s.csv %d %s" % task for task in tasks if task[2]])
 
 
-def write_weak(folder: str, traces: list[tuple[str, Trace]]) -> None:
-    """Writes which acquisitions are weak, if any are: the traces come with their names."""
-    lines = ["%s.csv %s" % (name, weak) for name, trace in traces for weak in trace.weak]
+def write_weak(folder: str, traces: list[tuple[str, list[str]]]) -> None:
+    """Writes which acquisitions are weak, if any are: those of each trace come with its name."""
+    lines = ["%s.csv %s" % (name, each) for name, weak in traces for each in weak]
     if lines:
         write_lines(os.path.join(folder, WEAK), lines)
 

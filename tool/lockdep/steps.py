@@ -5,11 +5,11 @@ from dataclasses import dataclass
 from typing import Callable
 
 from .findings import STATES, Event, Finding
+from .joins import THREAD
 
 # How a lock is taken, for modes other than a writer's.
 MODES = {"r": " as a reader", "rr": " as a recursive reader", "tw": " by a try", "tr": " as a reader, by a try",
          "trr": " as a recursive reader, by a try"}
-THREAD = "thread:"  # before the function of a thread, in the name of the lock that it has from its start to its end
 ORDER_BY = ", where %s comes in, whose handler"  # between what a thread holds and what a signal's handler waits for there
 VERBS = {"takes": "takes", "waits": "waits for"}
 TYPES = ("circle", "double", "inversion")

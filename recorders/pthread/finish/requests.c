@@ -64,17 +64,19 @@ static size_t asked_at(uint32_t module, uint64_t offset) {
     return i;
 }
 
-/* Reads of each address the functions, innermost first and the caller itself last, each with a line for its source. */
+/* Reads of each address the functions, innermost first and the caller itself last, each with a line for its source. Without a source it is
+   the last symbol before the address, which may be another function's, however far away. */
 static void read_functions(FILE *from, uint32_t module) {
-    char line[LONGEST_NAME], name[LONGEST_NAME];
+    char line[LONGEST_NAME], name[LONGEST_NAME] = "";
     size_t i = asked_count;
     for (bool is_function = true; fgets(line, sizeof line, from); is_function = !is_function) {
         if (begins_with(line, "0x")) {
             i = asked_at(module, strtoull(line, NULL, 16));
             is_function = false;
-        } else if (i < asked_count && is_function && asked[i].request == ASKED_UNKNOWN) {
+        } else if (is_function) {
             line[strcspn(line, "\n")] = 0;
             tell_symbol(name, sizeof name, line);
+        } else if (i < asked_count && asked[i].request == ASKED_UNKNOWN && !begins_with(line, "??")) {
             asked[i].request = told_by_name(name);
         }
     }
@@ -128,10 +130,10 @@ void ask_all(void) {
 /* ---- Both. */
 
 static enum request told_by_inlined(uint64_t word) {
-    for (size_t i = 0; i < asked_count; i++)
-        if (asked[i].word == word)
-            return asked[i].request;
-    return ASKED_UNKNOWN;
+    size_t i = 0;
+    while (i < asked_count && asked[i].word != word)
+        i++;
+    return i < asked_count && asked[i].request != ASKED_UNKNOWN ? asked[i].request : told_by_symbol(word);
 }
 
 /* The frames that were passed over to name the place, and the caller. */

@@ -4,8 +4,7 @@ import re
 from binascii import crc32
 
 from . import sets, starts
-from .joins import STARTED as THREAD, Joins
-from .folder import finishing, losses
+from .folder import finishing, joins as joining, losses
 from .folder import summary as summaries
 
 MOST_ALIKE = 2
@@ -17,7 +16,7 @@ FILE = re.compile(r"[0-9]+-[0-9]+")  # the name of a process's file
 MOST_HELD = 48  # locks that a trace has at a time
 LIFE = "life"  # the key of a thread in its own trace
 LIBRARY = "library"  # the kind of a class that the standard library makes for itself
-KEPT_KINDS = ("any object of", "the class object of", THREAD)  # kinds of classes; all others are made somewhere
+KEPT_KINDS = ("any object of", "the class object of", joining.STARTED)  # kinds of classes; all others are made somewhere
 
 LONGEST_COMMAND = 160
 
@@ -54,6 +53,10 @@ class Task:
         """Whether the last record is of a wait that gives up at a time."""
         return bool(self.records) and self.records[-1][0] & 7 in TIMED
 
+    def steps(self):
+        """The locks that are taken and released."""
+        return ((code >> 3, code & 7 == RELEASE) for code, _ in self.records)
+
     def content(self):
         """What is equal for equal traces."""
         return tuple((self.process.key(code >> 3), code & 7) for part in self.parts for code, _ in part.records)
@@ -78,7 +81,8 @@ class Process:
                         self.take(line[:-1])
                     except (ValueError, IndexError, KeyError):
                         self.counts["unwritten"] = 1
-        self.joins = Joins(self)
+        threads = {key for key, (made, _) in self.keys.items() if made in self.classes and self.classes[made].kind == joining.STARTED}
+        self.joins = joining.Joins(threads, self.tasks.values())
         self.join_parts()
 
     def join_parts(self):
@@ -388,7 +392,7 @@ def write_all(folder, names, processes, tally):
         named.append((name, task.process.pid, task.name))
         written.append((name, trace))
     finishing.write_tasks(folder, named)
-    finishing.write_weak(folder, written)
+    finishing.write_weak(folder, [(name, trace.weak) for name, trace in written])
     lines = sets.write_sets(folder, processes, written, names.reentrant(), tally)
     finishing.write_classes(folder, [(each.name, each.place, each.kind if each.kind in KEPT_KINDS else "made in") for each in names.used])
     return lines
@@ -419,6 +423,6 @@ def why_nothing(recorder, tally, processes, used):
     """Why no lock of the program's own was seen, if none was."""
     if not tally.numbers.get("operations"):
         return [summaries.Count("unseen %s-%s" % (recorder, "nothing" if processes else "off"), None)]
-    if used and all(each.kind in (LIBRARY, THREAD) for each in used):
+    if used and all(each.kind in (LIBRARY, joining.STARTED) for each in used):
         return [summaries.Count("library-only", len(used), losses.words_of("library-only", recorder))]
     return []

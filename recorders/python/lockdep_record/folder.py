@@ -6,7 +6,7 @@ import sys
 
 HOME = os.path.dirname(os.path.dirname(os.path.dirname(os.path.dirname(os.path.realpath(__file__)))))
 sys.path.insert(0, os.path.join(HOME, "tool"))
-from lockdep import finishing, folder as driver, losses, seen, summary  # noqa: E402, F401
+from lockdep import finishing, folder as driver, joins, losses, seen, summary  # noqa: E402, F401
 from lockdep.saying import RUN, Refusal, say_refusal, typed  # noqa: E402, F401
 sys.path.pop(0)
 

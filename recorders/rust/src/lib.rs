@@ -1,7 +1,8 @@
-//! The locks of `std::sync`, with the same API. Built with `--cfg lockdep`, they record how the program takes them, for
-//! `lockdep run --recorder rust`; without it this crate *is* `std::sync`. README.md says how to use it.
+//! The locks of `std::sync`, with the same API, and `thread`, with that of `std::thread`. Built with `--cfg lockdep`, they record how the
+//! program takes locks and joins threads, for `lockdep run --recorder rust`; without it this crate *is* `std::sync`, and its `thread`
+//! `std::thread`. README.md says how to use it.
 #[cfg(not(lockdep))]
-pub use std::sync::*;
+pub use std::{sync::*, thread};
 
 #[cfg(all(lockdep, unix))]
 mod condvar;
@@ -13,6 +14,8 @@ mod once;
 mod recording;
 #[cfg(all(lockdep, unix))]
 mod rwlock;
+#[cfg(all(lockdep, unix))]
+pub mod thread;
 
 #[cfg(all(lockdep, unix))]
 #[allow(deprecated)]

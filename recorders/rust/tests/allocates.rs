@@ -1,5 +1,5 @@
 // An allocator that takes a lock each time, which the recorder must not call while it records that.
-use lockdep_record::Mutex;
+use lockdep_record::{thread, Mutex};
 use std::alloc::{GlobalAlloc, Layout, System};
 
 struct Counting;
@@ -22,8 +22,10 @@ static ALLOCATOR: Counting = Counting;
 
 fn main() {
     let threads: Vec<_> = (0..4)
-        .map(|number| std::thread::spawn(move || (0..1000).for_each(|turn| A.lock().unwrap().push(number * turn))))
+        .map(|number| thread::spawn(move || (0..1000).for_each(|turn| A.lock().unwrap().push(number * turn))))
         .collect();
+    static B: Mutex<i32> = Mutex::new(0);
+    let _held = B.lock().unwrap();
     threads.into_iter().for_each(|thread| thread.join().unwrap());
     println!("{}", A.lock().unwrap().len());
 }

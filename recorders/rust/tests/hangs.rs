@@ -1,6 +1,6 @@
-// Programs that hang: two threads with two locks, a thread with its own lock, and a reader behind a writer that waits for it. A thread
-// that goes on says when the others wait.
-use lockdep_record::{Arc, Barrier, Mutex, RwLock};
+// Programs that hang: two threads with two locks, a thread with its own lock, a reader behind a writer that waits for it, and joins of a
+// thread with the lock held that it waits for, by a handle and by the end of a scope. A thread that goes on says when the others wait.
+use lockdep_record::{thread, Arc, Barrier, Mutex, RwLock};
 use std::fs::{read_dir, read_link, read_to_string};
 use std::{thread::sleep, thread::spawn, thread::Builder, time::Duration};
 
@@ -54,6 +54,19 @@ fn main() {
         }
         Some("again") => {
             spawn(|| drop((A.lock().unwrap(), A.lock().unwrap())));
+        }
+        Some("join") => {
+            let _held = A.lock().unwrap();
+            spawn(|| say_when_others_wait("waits\n"));
+            thread::spawn(|| drop(A.lock().unwrap())).join().unwrap();
+        }
+        Some("scope") => {
+            let held = A.lock().unwrap();
+            spawn(|| say_when_others_wait("waits\n"));
+            drop(thread::scope(|scope| {
+                scope.spawn(|| drop(A.lock().unwrap()));
+                held
+            }));
         }
         _ => {
             let reader = L.read().unwrap();

@@ -1,13 +1,16 @@
-// All of std::sync by its names in this crate, as one program that has to compile and run in both builds.
+// All of std::sync and std::thread by their names in this crate, as one program that has to compile and run in both builds.
 #![allow(deprecated, dead_code)]
 use lockdep_record::atomic::{AtomicUsize, Ordering};
 use lockdep_record::mpsc::{channel, sync_channel};
+use lockdep_record::thread;
+use lockdep_record::thread::{Builder, JoinHandle, Scope, ScopedJoinHandle, Thread, ThreadId};
 use lockdep_record::{
     Arc, Barrier, BarrierWaitResult, Condvar, LazyLock, LockResult, Mutex, MutexGuard, Once, OnceLock, OnceState, PoisonError,
     RwLock, RwLockReadGuard, RwLockWriteGuard, TryLockError, TryLockResult, WaitTimeoutResult, Weak, ONCE_INIT,
 };
 use std::cell::{Cell, RefCell};
 use std::fmt::{Debug, Display};
+use std::os::unix::thread::JoinHandleExt;
 use std::panic::{RefUnwindSafe, UnwindSafe};
 use std::time::Duration;
 
@@ -35,6 +38,7 @@ fn has_traits() {
     is_shared::<(Condvar, Once, OnceLock<i32>, LazyLock<i32>, Barrier)>();
     is_safe::<(Mutex<RefCell<i32>>, RwLock<RefCell<i32>>, Condvar, Once, OnceLock<i32>, LazyLock<i32>)>();
     is_default::<(Mutex<i32>, RwLock<i32>, Condvar, OnceLock<i32>, LazyLock<i32>)>();
+    is_shared::<(JoinHandle<Cell<i32>>, ScopedJoinHandle<'static, i32>, Scope<'static, 'static>, Builder, Thread, ThreadId)>();
     fn of_guards<'a>(mutex: MutexGuard<'a, i32>, reader: RwLockReadGuard<'a, i32>, writer: RwLockWriteGuard<'a, i32>) {
         fn is_seen<T: Sync>(_: &T) {}
         is_seen(&mutex);
@@ -154,6 +158,57 @@ fn others() {
     let _ = in_constants(1);
 }
 
+fn threads() {
+    let first = thread::spawn(|| thread::current().name().map(String::from));
+    assert!(first.thread().name().is_none() && format!("{first:?}") == "JoinHandle { .. }");
+    assert_eq!(first.join().unwrap(), None);
+    let named = Builder::new().name("one".into()).stack_size(1 << 20);
+    assert!(format!("{named:?}").starts_with("Builder { name: Some(\"one\"), stack_size: Some(1048576)"));
+    let named = named.spawn(|| thread::current().name().map(String::from)).unwrap();
+    assert!(named.as_pthread_t() != 0 && named.thread().name() == Some("one") && named.thread().id() != thread::current().id());
+    while !named.is_finished() {
+        thread::yield_now();
+    }
+    assert_eq!(named.join().unwrap().as_deref(), Some("one"));
+    let text = String::from("text");
+    assert_eq!(unsafe { Builder::new().spawn_unchecked(|| text.len()) }.unwrap().join().unwrap(), 4);
+    let failed = thread::spawn(|| std::panic::resume_unwind(Box::new(7)));
+    assert_eq!(failed.join().map(|()| 0).unwrap_err().downcast_ref(), Some(&7));
+    assert!(Builder::new().stack_size(usize::MAX / 2).spawn(|| 1).is_err() && thread::available_parallelism().is_ok());
+    unsafe { detach(thread::spawn(thread::park).into_pthread_t()) };
+}
+
+extern "C" {
+    #[link_name = "pthread_detach"]
+    fn detach(thread: std::os::unix::thread::RawPthread) -> i32;
+}
+
+fn scopes() {
+    let (mut numbers, text, count) = (vec![1, 2], String::from("text"), AtomicUsize::new(0));
+    let length = thread::scope(|scope| {
+        scope.spawn(|| numbers.push(3));
+        let inner = Builder::new().name("inner".into()).spawn_scoped(scope, || scope.spawn(|| text.len()).join().unwrap()).unwrap();
+        scope.spawn(|| scope.spawn(|| scope.spawn(|| count.fetch_add(1, Ordering::Relaxed))));
+        assert!(inner.thread().name() == Some("inner") && format!("{inner:?} {scope:?}").starts_with("ScopedJoinHandle { .. } Scope {"));
+        while !inner.is_finished() {
+            thread::sleep(Duration::from_millis(1));
+        }
+        let both: [ScopedJoinHandle<'_, usize>; 2] = [inner, scope.spawn(|| text.len())];
+        both.into_iter().map(|each| each.join().unwrap()).sum::<usize>()
+    });
+    assert_eq!((numbers.len(), length, count.into_inner()), (3, 8, 1));
+    let is_left = AtomicUsize::new(0);
+    let panicked = std::panic::catch_unwind(|| {
+        thread::scope(|scope| {
+            scope.spawn(|| is_left.fetch_add(1, Ordering::Relaxed));
+            std::panic::resume_unwind(Box::new(5))
+        })
+    });
+    assert_eq!((panicked.map(|()| 0).unwrap_err().downcast_ref(), is_left.into_inner()), (Some(&5), 1));
+    let caught = thread::scope(|scope| scope.spawn(|| std::panic::resume_unwind(Box::new(6))).join().map(|()| 0));
+    assert_eq!(caught.unwrap_err().downcast_ref(), Some(&6));
+}
+
 fn main() {
     has_traits();
     assert_eq!(borrows(), 4);
@@ -163,5 +218,7 @@ fn main() {
     conditions();
     once();
     others();
+    threads();
+    scopes();
     println!("all of it");
 }

@@ -1,6 +1,6 @@
 // A program whose output, errors and status are the same whether it is recorded or not.
+use lockdep_record::thread;
 use lockdep_record::{mpsc, Arc, Condvar, LazyLock, Mutex, PoisonError, RwLock};
-use std::thread;
 
 static NAMES: LazyLock<Mutex<Vec<String>>> = LazyLock::new(Mutex::default);
 static TABLE: RwLock<i32> = RwLock::new(1);
@@ -32,6 +32,13 @@ fn main() {
         panic!("with a lock held");
     });
     println!("{:?}", panicked.unwrap().join().unwrap_err().downcast_ref::<&str>());
+    let scope = std::panic::catch_unwind(|| {
+        thread::scope(|scope| {
+            let _names = TABLE.read();
+            scope.spawn(|| panic!("in a scope"));
+        })
+    });
+    println!("{:?}", scope.unwrap_err().downcast_ref::<&str>());
     println!("{:?} {:?}", NAMES.is_poisoned(), NAMES.lock().unwrap_or_else(PoisonError::into_inner));
     println!("{:?}", std::env::args().skip(1).collect::<Vec<_>>());
     eprintln!("{:?}", NAMES.try_lock());

@@ -1,9 +1,11 @@
 //! Records what threads do with locks.
+mod lives;
 mod names;
 mod process;
 mod store;
 mod task;
 
+pub use lives::{joined, Life, Lives, Running};
 pub use names::Mark;
 pub use task::{failed_try, gave, holds_something, took, wish, Mode, Token};
 

@@ -9,8 +9,16 @@ use std::sync::atomic::{AtomicU32, Ordering};
 pub struct Mark {
     place: &'static Location<'static>,
     type_name: fn() -> &'static str,
-    is_default: bool,
+    kind: Kind,
     key: AtomicU32,
+}
+
+/// What a lock is: one that is made by a call, or by `Default`, or a thread, which is one to who joins it.
+#[derive(Clone, Copy, PartialEq)]
+enum Kind {
+    Made,
+    Default,
+    Thread,
 }
 
 /// A bit of `Mark::key`: this lock keeps its key. Without it, a lock that isn't told apart may be, once it is taken under another.
@@ -26,15 +34,28 @@ const MOST_NAME: usize = 53;
 /// How much room is left for a type if the whole place is kept.
 const MIN_TYPE: usize = 20;
 
+/// What the names of threads' classes begin with, and the part of these that isn't the place.
+const THREAD: &str = "thread:";
+
 impl Mark {
     /// A lock that is made by a call.
     pub const fn new(place: &'static Location<'static>, type_name: fn() -> &'static str) -> Mark {
-        Mark { place, type_name, is_default: false, key: AtomicU32::new(0) }
+        Mark { place, type_name, kind: Kind::Made, key: AtomicU32::new(0) }
     }
 
     /// A lock that is made by `Default`: all fields of a structure that derives it have one place.
     pub const fn of_default(place: &'static Location<'static>, type_name: fn() -> &'static str) -> Mark {
-        Mark { place, type_name, is_default: true, key: AtomicU32::new(0) }
+        Mark { place, type_name, kind: Kind::Default, key: AtomicU32::new(0) }
+    }
+
+    /// A thread that is started.
+    pub const fn of_thread(place: &'static Location<'static>) -> Mark {
+        Mark { place, type_name: || "", kind: Kind::Thread, key: AtomicU32::new(0) }
+    }
+
+    /// A number that is the same for all locks of its class.
+    pub fn class(&self) -> u64 {
+        content_of(self.place, self.part())
     }
 
     /// The number of the lock, or of all those of its class that aren't told apart. 0 if there is no memory for it.
@@ -53,6 +74,7 @@ impl Mark {
         if !process::is_on() {
             return 0;
         }
+        let is_nested = is_nested || self.kind == Kind::Thread; // (a thread is joined with locks held)
         let found = NAMES.with(|names| {
             let key = self.key.load(Ordering::Relaxed);
             if key & IS_SETTLED != 0 || (key != 0 && !is_nested) {
@@ -74,10 +96,10 @@ impl Mark {
 
     /// The part of a class's name that isn't its place: the type, if locks of one place may have different types.
     fn part(&self) -> &'static str {
-        if self.is_default || is_of_library(self.place.file()) {
-            (self.type_name)()
-        } else {
-            ""
+        match self.kind {
+            Kind::Thread => THREAD,
+            Kind::Made if !is_of_library(self.place.file()) => "",
+            _ => (self.type_name)(),
         }
     }
 }
@@ -213,25 +235,33 @@ fn add_visible(text: &mut Text, bytes: &[u8]) {
 /// Adds a class's name: `FILE:LINE:COLUMN`, with the type if that belongs to it. If it is too long, the end of the place is kept, or the
 /// place and the beginning of the type.
 fn add_name(text: &mut Text, class: &Class) {
+    if class.part == THREAD {
+        text.add(THREAD.as_bytes());
+        return add_place_and_type(text, class.place, "", MOST_NAME - THREAD.len());
+    }
+    add_place_and_type(text, class.place, class.part, MOST_NAME)
+}
+
+fn add_place_and_type(text: &mut Text, place: &Location<'_>, part: &str, most: usize) {
     let mut whole = Text::new();
-    let _ = write!(whole, "{}:{}:{}", short(class.place.file()), class.place.line(), class.place.column());
-    let has_room = whole.bytes.len() + MIN_TYPE < MOST_NAME && !class.part.is_empty();
-    if !class.part.is_empty() {
+    let _ = write!(whole, "{}:{}:{}", short(place.file()), place.line(), place.column());
+    let has_room = whole.bytes.len() + MIN_TYPE < most && !part.is_empty();
+    if !part.is_empty() {
         whole.add(b"<");
-        add_type(&mut whole, class.part);
+        add_type(&mut whole, part);
         whole.add(b">");
     }
     let mut visible = Text::new();
     add_visible(&mut visible, &whole.bytes);
     let (length, hash) = (visible.bytes.len(), hash_of(&visible.bytes));
-    if length <= MOST_NAME {
+    if length <= most {
         text.add(&visible.bytes);
     } else if has_room {
-        text.add(&visible.bytes[..MOST_NAME - 9]);
+        text.add(&visible.bytes[..most - 9]);
         let _ = write!(text, "~{hash:08x}");
     } else {
         let _ = write!(text, "{hash:08x}~");
-        text.add(&visible.bytes[length - (MOST_NAME - 9)..]);
+        text.add(&visible.bytes[length - (most - 9)..]);
     }
 }
 

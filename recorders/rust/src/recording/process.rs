@@ -4,7 +4,8 @@
 //! - TIME-PID-classes has a line for each class: its name, a tab, `FILE:LINE`;
 //! - TIME-PID-NUMBER has the records of a thread: `A CLASS NUMBER MODE FILE:LINE` for an acquisition, `W ..` for one that is waited
 //!   for, `G` if what was waited for last is there, `R CLASS NUMBER` for a release, and `E` at the end of the thread.
-//!   If the thread has a name, `N NAME` is the first of them.
+//!   If the thread has a name, `N NAME` is the first of them, and then comes `T CLASS NUMBER` if it may be joined: it is this lock. A
+//!   join takes it and releases it at once.
 //!
 //! A file is opened for each write, so that the program has no open file that it doesn't know about.
 use super::names::NAMES;

@@ -3,6 +3,7 @@
 //! Records are left out by the rule of docs/RECORDING.md: a stretch that comes back to the locks that were held at its start, and takes
 //! nothing in a way in which its thread hadn't taken it before, is dropped. A way is the held locks and the new one, in their order: a
 //! node of a tree, of which each thread has its own. What is new is written at once, unless many threads did the same.
+use super::lives::{own_life, Life};
 use super::names::{add_place, Mark, NAMES};
 use super::process::{self, Trace, COUNTS, PROCESS};
 use super::store::{mixed, List, Table, Text};
@@ -11,16 +12,18 @@ use std::cell::Cell;
 use std::panic::Location;
 use std::sync::atomic::{compiler_fence, AtomicBool, AtomicU64, Ordering};
 
-/// How a lock is taken.
+/// How a lock is taken. `EndedThread`: a thread is joined that has ended.
 #[derive(Clone, Copy, PartialEq)]
 pub enum Mode {
     Write = 0,
     Read = 1,
     TryWrite = 2,
     TryRead = 3,
+    EndedThread = 4,
 }
 
-const MODES: [&[u8]; 4] = [b" w ", b" r ", b" tw ", b" tr "];
+const MODES: [&[u8]; MODE_COUNT as usize] = [b" w ", b" r ", b" tw ", b" tr ", b" e "];
+const MODE_COUNT: u32 = 5;
 const MOST_HELD: usize = 48;
 const MOST_NAME: usize = 64;
 const MOST_EVENTS: u64 = 1_000_000 - 2 * MOST_HELD as u64;
@@ -39,7 +42,7 @@ pub struct Token {
 
 const LEFT_OUT: Token = Token { task: 0, number: 0 };
 
-/// A record: 4 * a lock + a mode, and where the lock is taken, or nowhere if it is released.
+/// A record: MODE_COUNT * a lock + a mode, and where the lock is taken, or nowhere if it is released.
 #[derive(Clone, Copy)]
 struct Record {
     code: u32,
@@ -66,6 +69,9 @@ struct Way {
     is_taken: bool,
 }
 
+/// The root of the tree of a thread that nobody joins.
+const NO_LIFE: u64 = 1;
+
 /// The tree of everything that a thread held. 0 is its root.
 struct Ways {
     all: List<Way>,
@@ -73,9 +79,10 @@ struct Ways {
 }
 
 impl Ways {
-    fn new() -> Ways {
+    /// The tree of a thread that begins. Ways of threads of one class are alike, and not those of others, which have another root.
+    fn new(root: u64) -> Ways {
         let mut ways = Ways { all: List::new(), after: Table::new() };
-        ways.all.push(Way { hash: 1, is_taken: true });
+        ways.all.push(Way { hash: root, is_taken: true });
         ways
     }
 
@@ -102,6 +109,7 @@ pub struct Task {
     is_over: bool,
     waits: bool,
     pid: u32,
+    life: u32,
     has_foreign: AtomicBool,
     count: usize,
     held: [Held; MOST_HELD],
@@ -193,6 +201,7 @@ fn begin_here() -> *mut Task {
     HERE.set(task);
     // (so that whatever the library does for this finds a busy thread)
     let is_late = GUARD.try_with(|_| ()).is_err();
+    unsafe { (*task).begin_life(own_life()) };
     PROCESS.with(|process| unsafe {
         (*task).serial = process.next_serial();
         (*task).is_late = is_late;
@@ -240,7 +249,11 @@ fn end_here() {
 /// The running thread has taken a lock.
 #[inline]
 pub fn took(mark: &Mark, mode: Mode, place: Place) -> Token {
-    with_task(|task| task.take(mark, mode, place, false)).unwrap_or(LEFT_OUT)
+    with_task(|task| {
+        task.count_operation();
+        task.hold(mark, mode, place, false)
+    })
+    .unwrap_or(LEFT_OUT)
 }
 
 /// The running thread is about to release a lock.
@@ -275,11 +288,8 @@ pub struct Wish(Token);
 pub fn wish(mark: &Mark, mode: Mode, place: Place) -> Wish {
     Wish(
         with_task(|task| {
-            let token = task.take(mark, mode, place, true);
-            if token != LEFT_OUT && task.count > 1 {
-                task.flush();
-            }
-            token
+            task.count_operation();
+            task.hold_by_waiting(mark, mode, place)
         })
         .unwrap_or(LEFT_OUT),
     )
@@ -309,10 +319,37 @@ impl Drop for Wish {
     }
 }
 
+/// The running thread joins another one: it takes what that is, and gives it back at once. That isn't counted as an operation.
+pub fn joins(mark: &Mark, mode: Mode, place: Place) {
+    with_task(|task| {
+        let token = task.hold(mark, mode, place, false);
+        task.give_back_own(token);
+    });
+}
+
+/// The running thread is about to wait for the end of another one.
+#[cold]
+pub fn wishes_to_join(mark: &Mark, place: Place) -> Wish {
+    Wish(with_task(|task| task.hold_by_waiting(mark, Mode::Write, place)).unwrap_or(LEFT_OUT))
+}
+
+/// That thread has ended.
+pub fn has_joined(wish: Wish) {
+    let token = wish.granted();
+    if token != LEFT_OUT {
+        with_task(|task| task.give_back_own(token));
+    }
+}
+
 /// Whether the running thread holds something.
 #[inline]
 pub fn holds_something() -> bool {
     unsafe { HERE.get().as_ref() }.is_some_and(|task| task.count > 0)
+}
+
+/// Whether it matters that the running thread joins another one: it holds something, or may be joined itself.
+pub fn may_join() -> bool {
+    holds_something() || !own_life().is_null() || unsafe { HERE.get().as_ref() }.is_some_and(|task| task.life != 0)
 }
 
 // ---- The records.
@@ -330,11 +367,12 @@ impl Task {
             is_over: false,
             waits: false,
             pid: std::process::id(),
+            life: 0,
             has_foreign: AtomicBool::new(false),
             count: 0,
             held: [nothing; MOST_HELD],
             way: 0,
-            ways: Ways::new(),
+            ways: Ways::new(NO_LIFE),
             records: List::new(),
             base: 0,
             fresh: 0,
@@ -371,15 +409,29 @@ impl Task {
         self.base + self.records.len() as u64
     }
 
+    /// The thread has what it is itself to its end.
+    fn begin_life(&mut self, life: *const Life) {
+        let Some(life) = (unsafe { life.as_ref() }) else { return };
+        self.life = life.begins();
+        self.ways = Ways::new(life.class());
+    }
+
+    fn hold_by_waiting(&mut self, mark: &Mark, mode: Mode, place: Place) -> Token {
+        let token = self.hold(mark, mode, place, true);
+        if token != LEFT_OUT && self.count > 1 {
+            self.flush();
+        }
+        token
+    }
+
     #[inline]
-    fn take(&mut self, mark: &Mark, mode: Mode, place: Place, waits: bool) -> Token {
-        self.count_operation();
+    fn hold(&mut self, mark: &Mark, mode: Mode, place: Place, waits: bool) -> Token {
         self.failed = std::ptr::null();
         if self.is_over || self.waits || self.count >= MOST_HELD || self.here() >= MOST_EVENTS {
             return self.leave_out();
         }
-        let code = 4 * mark.key(self.count > 0) + mode as u32;
-        let way = if code < 4 { None } else { self.ways.to(self.way, code) };
+        let code = MODE_COUNT * mark.key(self.count > 0) + mode as u32;
+        let way = if code < MODE_COUNT { None } else { self.ways.to(self.way, code) };
         let Some(way) = way.filter(|_| self.records.push(Record { code, place: Some(place) })) else {
             return self.give_up();
         };
@@ -438,6 +490,12 @@ impl Task {
         if token.task != self.serial {
             return self.give_for_another(token);
         }
+        self.give_back_own(token);
+    }
+
+    /// What this thread took is no longer held.
+    #[inline]
+    fn give_back_own(&mut self, token: Token) {
         let mut at = self.count;
         while at > 0 {
             at -= 1;
@@ -597,6 +655,9 @@ impl Task {
         let is_forked = self.pid != std::process::id();
         if is_forked || self.trace.as_ref().is_none_or(|trace| trace.length == 0) {
             add_name(&mut text);
+            if !is_forked {
+                self.add_life(&mut text);
+            }
         }
         let begin = text.bytes.len();
         if is_forked {
@@ -644,6 +705,7 @@ impl Task {
     fn begin_in_child(&mut self, text: &mut Text) {
         self.pid = std::process::id();
         self.trace = None;
+        self.life = 0; // (nobody there joins it)
         for held in &mut self.held[..self.count] {
             held.offset = NOWHERE;
         }
@@ -652,6 +714,15 @@ impl Task {
                 add_record(text, names, record, false);
             }
         });
+    }
+
+    /// Begins the file of a thread that may be joined with what it is itself.
+    fn add_life(&self, text: &mut Text) {
+        if self.life != 0 {
+            text.add(b"T ");
+            NAMES.with(|names| names.add_lock(text, self.life));
+            text.add(b"\n");
+        }
     }
 
     /// The thread got what it waited for: that is written if the wait was.
@@ -709,12 +780,12 @@ fn add_name(text: &mut Text) {
 fn add_record(text: &mut Text, names: &super::names::Names, record: Record, is_wish: bool) {
     let Some(place) = record.place else {
         text.add(b"R ");
-        names.add_lock(text, record.code / 4);
+        names.add_lock(text, record.code / MODE_COUNT);
         return text.add(b"\n");
     };
     text.add(if is_wish { b"W " } else { b"A " });
-    names.add_lock(text, record.code / 4);
-    text.add(MODES[record.code as usize % 4]);
+    names.add_lock(text, record.code / MODE_COUNT);
+    text.add(MODES[(record.code % MODE_COUNT) as usize]);
     add_place(text, place);
     text.add(b"\n");
 }

@@ -3,7 +3,7 @@ package java.lockdep;
 /**
  * A wait for the end of a thread. To who joins it, a thread is a lock that it has from its start to its end, and that
  * is taken and given back at once. What of this can matter is found out when the traces are made
- * (recorders/python/lockdep_record/joins.py).
+ * (tool/lockdep/joins.py).
  */
 final class Join {
     /** How long is waited before that is written, in milliseconds. */
