@@ -88,6 +88,15 @@ answers() {
     same "$about" "$answer" "$status $(cat "${messages:-said}")"
 }
 
+# Run with these words, the case NAME has a text among its messages: tells NAME TEXT WORD...
+tells() {
+    about=$1
+    told=$2
+    shift 2
+    run "$@"
+    says "$told"
+}
+
 # Each of these texts has to be among the messages of the case, or may not be: says TEXT..., is_silent_of TEXT...
 says() {
     for each in "$@"; do has "$about" "$each" "${messages:-said}"; done
@@ -125,6 +134,11 @@ traces_of() {
     else
         find "$1" -maxdepth 1 -name '*.txt' ! -name report.txt ! -name explain.txt ! -name locks.txt ! -name fault.txt ! -name chains.txt ! -name condensed.txt | sort
     fi
+}
+
+# Lines in one line.
+in_line() {
+    tr '\n' ' ' | sed 's/ $//'
 }
 
 # Whole traces of a text that has a nest of locks in each line: several events, and `48*EVENT` for so many of one. Lines of anything else are as
