@@ -36,8 +36,7 @@ static void create_or_acquire(void) {
 
 static void *use(void *unused) {
     create_or_acquire();
-    pthread_mutex_lock(&global);
-    pthread_mutex_unlock(&global);
+    TAKE(&global);
     pthread_mutex_unlock(shared);
     return unused;
 }
@@ -49,10 +48,7 @@ static void *try_in_vain(void *unused) {
 }
 
 static void use_again(void) {
-    pthread_mutex_lock(&global);
-    pthread_mutex_lock(shared);
-    pthread_mutex_unlock(shared);
-    pthread_mutex_unlock(&global);
+    NEST(&global, shared);
 }
 
 static void *use_timed(void *unused) {
@@ -66,8 +62,7 @@ static void *use_timed(void *unused) {
 }
 
 static void take_and_give(pthread_mutex_t *lock) {
-    pthread_mutex_lock(lock);
-    pthread_mutex_unlock(lock);
+    TAKE(lock);
 }
 
 static void *waits(void *posted) {
@@ -125,18 +120,11 @@ static void make_and_move_on(void) {
     make();
     pthread_mutex_lock(&other);
     pthread_mutex_unlock(&global);
-    pthread_mutex_lock(shared);
-    pthread_mutex_unlock(shared);
+    TAKE(shared);
     pthread_mutex_unlock(&other);
 }
 
-static void *use_other(void *unused) {
-    pthread_mutex_lock(shared);
-    pthread_mutex_lock(&other);
-    pthread_mutex_unlock(&other);
-    pthread_mutex_unlock(shared);
-    return unused;
-}
+THREAD(use_other, NEST(shared, &other))
 
 int main(int argc, char **argv) {
     const char *way = argc > 1 ? argv[1] : "";

@@ -20,10 +20,7 @@ static void drop(pthread_mutex_t *m) {
 }
 
 static void take(pthread_mutex_t *first, pthread_mutex_t *second) {
-    pthread_mutex_lock(first);
-    pthread_mutex_lock(second);
-    pthread_mutex_unlock(second);
-    pthread_mutex_unlock(first);
+    NEST(first, second);
 }
 
 static pthread_mutex_t *a, *b;
@@ -50,8 +47,7 @@ static void come_and_go(void) {
 static void take_alone(void) {
     for (int i = 0; i < 100; i++) {
         pthread_mutex_t *m = new_lock();
-        pthread_mutex_lock(m);
-        pthread_mutex_unlock(m);
+        TAKE(m);
     }
 }
 

@@ -18,17 +18,11 @@ static APART struct account *new_account(void) { return make(); }
 static APART struct account *new_journal(void) { return make(); }
 
 static APART void take_first(struct account *a) {
-    pthread_mutex_lock(&outer);
-    pthread_mutex_lock(&a->lock);
-    pthread_mutex_unlock(&a->lock);
-    pthread_mutex_unlock(&outer);
+    NEST(&outer, &a->lock);
 }
 
 static APART void take_last(struct account *a) {
-    pthread_mutex_lock(&a->lock);
-    pthread_mutex_lock(&outer);
-    pthread_mutex_unlock(&outer);
-    pthread_mutex_unlock(&a->lock);
+    NEST(&a->lock, &outer);
 }
 
 static APART void local_first(int depth) {
