@@ -17,9 +17,7 @@ static int is_semaphore;
 static void take(void) { is_semaphore ? sem_wait(&semaphore) : pthread_mutex_lock(&mutex); }
 static void give(void) { is_semaphore ? sem_post(&semaphore) : pthread_mutex_unlock(&mutex); }
 
-static void take_x(void) {
-    TAKE(&x);
-}
+static void take_x(void) { TAKE(&x); }
 
 /* Turns are given by pipes, which no recorder takes for locks. */
 static int to_main[2], to_other[2];

@@ -47,9 +47,7 @@ static void *try_in_vain(void *unused) {
     return unused;
 }
 
-static void use_again(void) {
-    NEST(&global, shared);
-}
+static void use_again(void) { NEST(&global, shared); }
 
 static void *use_timed(void *unused) {
     struct timespec until = in_milliseconds(CLOCK_REALTIME, 1000);
@@ -61,9 +59,7 @@ static void *use_timed(void *unused) {
     return unused;
 }
 
-static void take_and_give(pthread_mutex_t *lock) {
-    TAKE(lock);
-}
+static void take_and_give(pthread_mutex_t *lock) { TAKE(lock); }
 
 static void *waits(void *posted) {
     while (sem_wait(posted) != 0)

@@ -19,9 +19,7 @@ static void drop(pthread_mutex_t *m) {
     free(m);
 }
 
-static void take(pthread_mutex_t *first, pthread_mutex_t *second) {
-    NEST(first, second);
-}
+static void take(pthread_mutex_t *first, pthread_mutex_t *second) { NEST(first, second); }
 
 static pthread_mutex_t *a, *b;
 

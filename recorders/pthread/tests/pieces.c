@@ -30,9 +30,7 @@ static APART struct mapped *new_mapped(void) {
     return mmap(NULL, sizeof(struct mapped), PROT_READ | PROT_WRITE, MAP_PRIVATE | MAP_ANONYMOUS, -1, 0);
 }
 
-static void take_b(void) {
-    TAKE(&b);
-}
+static void take_b(void) { TAKE(&b); }
 
 static void take_nothing(void) {}
 

@@ -16,9 +16,7 @@ static APART void make_idle(void) { sem_init(&idle, 0, 0); }
 static APART void make_mutex(void) { sem_init(&mutex, 0, 1); }
 static APART void make_both(void) { sem_init(both, 1, 0); }
 
-static void take_x(void) {
-    TAKE(&x);
-}
+static void take_x(void) { TAKE(&x); }
 
 static void *idles(void *lock) {
     if (lock)

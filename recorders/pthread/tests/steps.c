@@ -33,9 +33,7 @@ static void nests(unsigned from, unsigned count) {
         pthread_mutex_unlock(&locks[(from + i) % STATIC]);
 }
 
-static void visits(unsigned which) {
-    NEST(&pieces[which]->lock, &locks[3 + which % 2]);
-}
+static void visits(unsigned which) { NEST(&pieces[which]->lock, &locks[3 + which % 2]); }
 
 static void goes_hand_over_hand(unsigned from) {
     pthread_mutex_lock(&pieces[from]->lock);
