@@ -141,6 +141,20 @@ def summary(folder, name):
     return int(found.group(1)) if found else 0
 
 
+def unfolded(text):
+    """Whole traces of a text that has a nest of locks in each line: several events, and `48*EVENT` for so many of one."""
+    lines = []
+    for line in text.splitlines():
+        words = line.split()
+        if words[0] == "==":  # the name of a trace
+            lines.append(" ".join(words[:2]))
+            words = words[2:]
+        for word in words:
+            times, star, event = word.partition("*")
+            lines += [event] * int(times) if star and times.isdigit() else [word]
+    return "".join(line + "\n" for line in lines)
+
+
 def try_expected(record, traces_of, losses, left_out, statuses=None):
     """Records each program of tests/ that has whole traces, NAME.expected, and compares them and what was left out; returns the runs."""
     tests, runs = os.path.join(script, "tests"), {}
@@ -150,7 +164,7 @@ def try_expected(record, traces_of, losses, left_out, statuses=None):
             continue
         done = runs[name] = record(name)
         same(name + ": status", (statuses or {}).get(name, 0), done.status)
-        same(name + ": traces", contents(os.path.join(tests, expected)), traces_of(name))
+        same(name + ": traces", unfolded(contents(os.path.join(tests, expected))), traces_of(name))
         check(name)
         for loss in losses:
             same("%s: %s" % (name, loss), left_out.get(name, {}).get(loss, 0), summary(name, loss))

@@ -61,6 +61,52 @@ lacks() {
     if grep -qF -- "$2" "$3" 2>/dev/null; then fail "$1: '$2' in '$(cat "$3")'"; else pass "$1"; fi
 }
 
+# ---- What a run says. A script that uses these has a function `run`, which runs something with the words of its call, and leaves its status in
+# $status and its messages in the file `said`, or $messages. The case that it belongs to is $about.
+
+# The run of the case NAME has ended with STATUS: ends_with NAME STATUS.
+ends_with() {
+    about=$1
+    same "$about: status" "$2" "$status"
+}
+
+# Run with these words, the case NAME ends with STATUS: ends NAME STATUS WORD...
+ends() {
+    about=$1
+    wanted_status=$2
+    shift 2
+    run "$@"
+    ends_with "$about" "$wanted_status"
+}
+
+# Run with these words, the case NAME ends with a status and messages, and says nothing else: answers NAME "STATUS MESSAGES" WORD...
+answers() {
+    about=$1
+    answer=$2
+    shift 2
+    run "$@"
+    same "$about" "$answer" "$status $(cat "${messages:-said}")"
+}
+
+# Run with these words, the case NAME has a text among its messages: tells NAME TEXT WORD...
+tells() {
+    about=$1
+    told=$2
+    shift 2
+    run "$@"
+    says "$told"
+}
+
+# Each of these texts has to be among the messages of the case, or may not be: says TEXT..., is_silent_of TEXT...
+says() {
+    for each in "$@"; do has "$about" "$each" "${messages:-said}"; done
+}
+is_silent_of() {
+    for each in "$@"; do lacks "$about" "$each" "${messages:-said}"; done
+}
+
+# ----
+
 # Waits until a command succeeds, as long as one may take: await_that COMMAND...
 await_that() {
     tries=0
@@ -88,6 +134,29 @@ traces_of() {
     else
         find "$1" -maxdepth 1 -name '*.txt' ! -name report.txt ! -name explain.txt ! -name locks.txt ! -name fault.txt ! -name chains.txt ! -name condensed.txt | sort
     fi
+}
+
+# Lines in one line.
+in_line() {
+    tr '\n' ' ' | sed 's/ $//'
+}
+
+# Whole traces of a text that has a nest of locks in each line: several events, and `48*EVENT` for so many of one. Lines of anything else are as
+# they are: unfold FILE.
+unfold() {
+    awk '
+        function is_event(word) { return word ~ /^([0-9]+[*])?((acq|rel|enter|on|off|lockdep),|leave$)/ }
+        {
+            first = /^== / && is_event($3) ? 3 : 1
+            if (first == 3) print $1, $2
+            if (!is_event($first)) { print; next }
+            for (i = first; i <= NF; i++) {
+                count = $i ~ /^[0-9]+[*]/ ? $i + 0 : 1
+                event = $i
+                sub(/^[0-9]+[*]/, "", event)
+                while (count-- > 0) print event
+            }
+        }' "$1"
 }
 
 # A number in the SUMMARY of a recording below $room, if it is there: summary RECORDING CODE.

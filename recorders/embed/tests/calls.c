@@ -37,6 +37,40 @@ static void end_case(void) {
 #define take(name) ldr_acquire(&task, name, 0, LDR_W)
 #define give(name) ldr_release(&task, name, 0)
 
+static void say_rest(void) { say(ldr_is_at_rest(&task) ? "at rest\n" : "busy\n"); }
+
+static void turn(unsigned irq, int is_on) {
+    if (is_on)
+        ldr_on(&task, irq);
+    else
+        ldr_off(&task, irq);
+}
+
+/* Makes the calls of a text: `a` to `d` take a lock of that name, and `-a` gives it back; `H` and `S` begin a hardirq and a softirq, and `.` ends it;
+   `h0`, `h1`, `s0` and `s1` turn them off and on; `?` says whether the task is at rest. */
+static void make(const char *text) {
+    static const char *const names[] = {"a", "b", "c", "d"};
+    for (; *text; text++)
+        switch (*text) {
+        case ' ': break;
+        case '-': give(names[*++text - 'a']); break;
+        case 'H': ldr_enter(&task, LDR_HARDIRQ); break;
+        case 'S': ldr_enter(&task, LDR_SOFTIRQ); break;
+        case '.': ldr_leave(&task); break;
+        case 'h': turn(LDR_HARDIRQ, *++text == '1'); break;
+        case 's': turn(LDR_SOFTIRQ, *++text == '1'); break;
+        case '?': say_rest(); break;
+        default: take(names[*text - 'a']);
+        }
+}
+
+/* A case that is nothing but such calls. */
+static void made(const char *name, const char *text) {
+    begin_case(name);
+    make(text);
+    end_case();
+}
+
 /* ---- Acquisitions and releases. */
 
 static void modes(void) {
@@ -88,122 +122,50 @@ static void words(void) {
 static void order(void) {
     static char there[] = "b";
     begin_case("order");
-    take("a");
-    take("b");
-    take("a");
-    take("c");
-    give("a");
+    make("a b a c -a");
     give(there);
-    give("c");
-    give("a");
+    make("-c -a");
     end_case();
 }
 
 static void unseen(void) {
     begin_case("unseen");
-    give("a");
-    take("a");
+    make("-a a");
     ldr_release(&task, "a", 1);
     give("ab");
     give("");
-    give("a");
-    give("a");
+    make("-a -a");
     end_case();
 }
 
 /* ---- Interrupts. */
 
-static void interrupts(void) {
-    begin_case("interrupts");
-    take("a");
-    ldr_enter(&task, LDR_HARDIRQ);
-    take("b");
-    give("a");
-    give("b");
-    ldr_leave(&task);
-    ldr_enter(&task, LDR_SOFTIRQ);
-    take("c");
-    ldr_enter(&task, LDR_HARDIRQ);
-    take("d");
-    give("d");
-    ldr_leave(&task);
-    give("c");
-    ldr_leave(&task);
-    ldr_leave(&task);
-    give("a");
-    end_case();
-}
+static void interrupts(void) { made("interrupts", "a H b -a -b . S c H d -d . -c . . -a"); }
 
 /* Interrupts that no trace can have are left out with all their calls. */
 static void nested(void) {
     begin_case("nested");
-    ldr_enter(&task, LDR_HARDIRQ);
-    ldr_enter(&task, LDR_HARDIRQ);
-    take("a");
-    ldr_enter(&task, LDR_SOFTIRQ);
-    ldr_leave(&task);
-    give("a");
-    ldr_leave(&task);
-    take("b");
-    give("b");
-    ldr_leave(&task);
-    ldr_enter(&task, LDR_SOFTIRQ);
-    ldr_enter(&task, LDR_SOFTIRQ);
-    ldr_leave(&task);
-    ldr_leave(&task);
+    make("H H a S . -a . b -b . S S . .");
     ldr_enter(&task, 0);
     ldr_leave(&task);
     ldr_enter(&task, 3);
-    ldr_leave(&task);
-    take("c");
+    make(". c");
     end_case();
 }
 
 static void flags(void) {
     begin_case("flags");
-    ldr_on(&task, LDR_HARDIRQ);
-    ldr_off(&task, LDR_HARDIRQ);
-    ldr_off(&task, LDR_HARDIRQ);
-    ldr_off(&task, LDR_SOFTIRQ);
-    ldr_on(&task, LDR_HARDIRQ);
-    ldr_on(&task, LDR_SOFTIRQ);
-    ldr_enter(&task, LDR_SOFTIRQ);
-    ldr_off(&task, LDR_SOFTIRQ);
-    ldr_on(&task, LDR_SOFTIRQ);
-    ldr_off(&task, LDR_HARDIRQ);
-    ldr_leave(&task);
-    ldr_enter(&task, LDR_HARDIRQ);
-    ldr_off(&task, LDR_HARDIRQ);
-    ldr_on(&task, LDR_HARDIRQ);
-    ldr_on(&task, LDR_SOFTIRQ);
-    ldr_leave(&task);
+    make("h1 h0 h0 s0 h1 s1 S s0 s1 h0 . H h0 h1 s1 .");
     ldr_off(&task, 7);
     end_case();
 }
 
 /* An interrupt that comes in although it is off. */
-static void opened(void) {
-    begin_case("opened");
-    ldr_off(&task, LDR_HARDIRQ);
-    ldr_enter(&task, LDR_HARDIRQ);
-    ldr_leave(&task);
-    ldr_on(&task, LDR_HARDIRQ);
-    ldr_off(&task, LDR_SOFTIRQ);
-    ldr_off(&task, LDR_HARDIRQ);
-    ldr_enter(&task, LDR_SOFTIRQ);
-    ldr_off(&task, LDR_HARDIRQ);
-    ldr_enter(&task, LDR_HARDIRQ);
-    ldr_leave(&task);
-    ldr_leave(&task);
-    ldr_off(&task, LDR_HARDIRQ);
-    end_case();
-}
+static void opened(void) { made("opened", "h0 H . h1 s0 h0 S h0 H . . h0"); }
 
 static void kept(void) {
     begin_case("kept");
-    take("a");
-    ldr_enter(&task, LDR_SOFTIRQ);
-    take("b");
+    make("a S b");
     ldr_acquire(&task, "c", 1, LDR_R);
     ldr_leave(&task);
     ldr_release(&task, "c", 1);
@@ -232,10 +194,7 @@ static void refused(void) {
     take("three");
     end_case();
     give("three");
-    ldr_enter(&task, LDR_HARDIRQ);
-    ldr_leave(&task);
-    ldr_off(&task, LDR_HARDIRQ);
-    ldr_on(&task, LDR_HARDIRQ);
+    make("H . h0 h1");
     say_counts();
 }
 
@@ -245,8 +204,7 @@ static void refused(void) {
 static void small(void) {
     begin_case("small");
     say(ldr_begin(&task, bytes, LDR_ROOM - 1, write_out, NULL) == -1 ? "refused\n" : "accepted\n");
-    take("a");
-    give("a");
+    make("a -a");
     end_case();
     say(ldr_begin(&task, bytes, LDR_ROOM, write_out, NULL) == 0 ? "accepted\n" : "refused\n");
     take(QUOTES QUOTES QUOTES QUOTES);
@@ -255,13 +213,11 @@ static void small(void) {
 
 /* An interrupt that comes in while a buffer is put. */
 static int put_interrupted(void *cookie, const char *from, size_t size) {
-    ldr_enter(&task, LDR_HARDIRQ);
+    make("H");
     take("within");
-    ldr_enter(&task, LDR_HARDIRQ);
-    ldr_leave(&task);
+    make("H .");
     give("within");
-    ldr_leave(&task);
-    ldr_leave(&task);
+    make(". .");
     ldr_flush(&task);
     return write_out(cookie, from, size);
 }
@@ -269,10 +225,7 @@ static int put_interrupted(void *cookie, const char *from, size_t size) {
 static void inside(void) {
     begin_case("inside");
     ldr_begin(&task, bytes, 160, put_interrupted, NULL);
-    take("a");
-    ldr_enter(&task, LDR_HARDIRQ);
-    ldr_leave(&task);
-    give("a");
+    make("a H . -a");
     ldr_flush(&task);
     say_counts();
 }
@@ -315,42 +268,13 @@ static void little_room(void) {
 /* ---- Ends. */
 
 static void ends(void) {
-    begin_case("ends");
-    take("a");
-    ldr_enter(&task, LDR_SOFTIRQ);
-    take("b");
-    end_case();
-    give("b");
-    ldr_leave(&task);
+    made("ends", "a S b");
+    make("-b .");
     say_counts();
-    begin_case("begun_again");
-    take("a");
-    give("a");
-    end_case();
+    made("begun_again", "a -a");
 }
 
-static void say_rest(void) { say(ldr_is_at_rest(&task) ? "at rest\n" : "busy\n"); }
-
-static void rests(void) {
-    begin_case("rests");
-    say_rest();
-    take("a");
-    say_rest();
-    give("a");
-    say_rest();
-    ldr_off(&task, LDR_SOFTIRQ);
-    say_rest();
-    ldr_on(&task, LDR_SOFTIRQ);
-    say_rest();
-    ldr_enter(&task, LDR_SOFTIRQ);
-    say_rest();
-    ldr_enter(&task, LDR_SOFTIRQ);
-    say_rest();
-    ldr_leave(&task);
-    ldr_leave(&task);
-    say_rest();
-    end_case();
-}
+static void rests(void) { made("rests", "? a ? -a ? s0 ? s1 ? S ? S ? . . ?"); }
 
 /* A task that was never begun, but for its memory's being zero. */
 static void unbegun(void) {
@@ -372,12 +296,7 @@ static void deep(void) {
     begin_case("deep");
     for (unsigned i = 0; i < 47; i++)
         take("a");
-    ldr_enter(&task, LDR_HARDIRQ);
-    take("b");
-    take("c");
-    give("c");
-    give("b");
-    ldr_leave(&task);
+    make("H b c -c -b .");
     end_case();
 }
 
@@ -398,11 +317,7 @@ static void many(void) {
         take("a");
         give("a");
     }
-    ldr_off(&task, LDR_HARDIRQ);
-    ldr_enter(&task, LDR_HARDIRQ);
-    take("a");
-    ldr_leave(&task);
-    give("a");
+    make("h0 H a . -a");
     end_case();
     say_number(lines);
     say(" lines\n");
@@ -417,8 +332,7 @@ static void nest(const char *innermost) {
         take(innermost);
         give(innermost);
     }
-    give("b");
-    give("a");
+    make("-b -a");
 }
 
 static void hold(void) { take("a"); }
@@ -434,13 +348,9 @@ static void known(void) {
     nest("c");
     nest(NULL);
     hold();
-    ldr_off(&task, LDR_HARDIRQ);
-    ldr_on(&task, LDR_HARDIRQ);
-    give("a");
+    make("h0 h1 -a");
     hold();
-    ldr_off(&task, LDR_HARDIRQ);
-    ldr_on(&task, LDR_HARDIRQ);
-    give("a");
+    make("h0 h1 -a");
     hold();
     ldr_flush(&task);
     give("a");

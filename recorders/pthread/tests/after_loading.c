@@ -9,8 +9,7 @@ static const char *with_constructor, *with_destructor;
 
 static APART void *take_a(const char *unused, int number) {
     (void)unused, (void)number;
-    pthread_mutex_lock(&a);
-    pthread_mutex_unlock(&a);
+    TAKE(&a);
     return NULL;
 }
 

@@ -7,8 +7,7 @@ static void use(void *piece, size_t size) {
         abort();
     memset(piece, 0, size);
     pthread_mutex_t *m = (pthread_mutex_t *)((char *)piece + (size - sizeof *m) / 8 * 8);
-    pthread_mutex_lock(m);
-    pthread_mutex_unlock(m);
+    TAKE(m);
 }
 
 static void *churn(void *unused) {

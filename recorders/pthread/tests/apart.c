@@ -34,15 +34,8 @@ static void await(atomic_int *state) {
         sched_yield();
 }
 
-static void take(pthread_mutex_t *outer, pthread_mutex_t *inner) {
-    pthread_mutex_lock(outer);
-    pthread_mutex_lock(inner);
-    pthread_mutex_unlock(inner);
-    pthread_mutex_unlock(outer);
-}
-
 static void *take_ab(void *unused) {
-    take(&a, &b);
+    NEST(&a, &b);
     is_done = 1;
     return unused;
 }
@@ -58,18 +51,11 @@ static void *take_ab_when_started(void *unused) {
     return take_ab(unused);
 }
 
-static void *take_ba(void *unused) {
-    take(&b, &a);
-    return unused;
-}
-
-static void *take_bc(void *unused) {
-    take(&b, &c);
-    return unused;
-}
+THREAD(take_ba, NEST(&b, &a))
+THREAD(take_bc, NEST(&b, &c))
 
 static void *take_ca(void *unused) {
-    take(&c, &a);
+    NEST(&c, &a);
     is_done = 1;
     await(&may_end);
     return unused;
@@ -94,15 +80,8 @@ static void *join_first(void *unused) {
     return unused;
 }
 
-static void *start_second(void *unused) {
-    run_in_turn(take_ba);
-    return unused;
-}
-
-static void *start_first(void *unused) {
-    run_in_turn(take_ab);
-    return unused;
-}
+THREAD(start_second, run_in_turn(take_ba))
+THREAD(start_first, run_in_turn(take_ab))
 
 static void *take_ab_and_start_second(void *unused) {
     take_ab(unused);

@@ -5,8 +5,7 @@ static pthread_mutex_t m = PTHREAD_MUTEX_INITIALIZER, after = PTHREAD_MUTEX_INIT
 static pthread_cond_t changed = PTHREAD_COND_INITIALIZER;
 
 static void clean_up(void *unused) {
-    pthread_mutex_lock(&after);
-    pthread_mutex_unlock(&after);
+    TAKE(&after);
     pthread_mutex_unlock(&m);
     (void)unused;
 }

@@ -8,16 +8,13 @@ static atomic_int is_done;
 extern char **environ;
 
 static void *locks(void *unused) {
-    while (!is_done) {
-        pthread_mutex_lock(&a);
-        pthread_mutex_unlock(&a);
-    }
+    while (!is_done)
+        TAKE(&a);
     return unused;
 }
 
 static void in_child(void) {
-    pthread_mutex_lock(&b);
-    pthread_mutex_unlock(&b);
+    TAKE(&b);
     _exit(0);
 }
 

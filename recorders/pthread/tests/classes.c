@@ -7,10 +7,7 @@ static struct pair {
     pthread_mutex_t lock;
 } pair = {0, PTHREAD_MUTEX_INITIALIZER};
 
-static APART void take_it(pthread_mutex_t *m) {
-    pthread_mutex_lock(m);
-    pthread_mutex_unlock(m);
-}
+static APART void take_it(pthread_mutex_t *m) { TAKE(m); }
 
 static APART void init_all(pthread_mutex_t *many, int count) {
     for (int i = 0; i < count; i++)

@@ -2,13 +2,7 @@
 #include "common.h"
 static pthread_mutex_t a = PTHREAD_MUTEX_INITIALIZER, b = PTHREAD_MUTEX_INITIALIZER;
 
-static void *takes_both(void *unused) {
-    pthread_mutex_lock(&a);
-    pthread_mutex_lock(&b);
-    pthread_mutex_unlock(&b);
-    pthread_mutex_unlock(&a);
-    return unused;
-}
+THREAD(takes_both, NEST(&a, &b))
 
 int main(void) {
     in_thread(takes_both, NULL);

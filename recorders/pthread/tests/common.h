@@ -28,3 +28,20 @@ static inline void in_thread(void *(*run)(void *), void *with) {
     pthread_create(&t, NULL, run, with);
     pthread_join(t, NULL);
 }
+
+/* Takes a mutex, and gives it back; or the second one of two under the first. A macro does so in the function and the line that it stands in. */
+#define TAKE(mutex) (pthread_mutex_lock(mutex), pthread_mutex_unlock(mutex))
+#define NEST(first, second) (pthread_mutex_lock(first), TAKE(second), pthread_mutex_unlock(first))
+
+/* Nests two mutexes, of which it gets the addresses. */
+static inline void *nest_pair(void *locks) {
+    NEST(((pthread_mutex_t **)locks)[0], ((pthread_mutex_t **)locks)[1]);
+    return NULL;
+}
+
+/* A function of a thread that does this. */
+#define THREAD(name, does) \
+    static void *name(void *unused) { \
+        does; \
+        return unused; \
+    }

@@ -4,10 +4,7 @@ static pthread_mutex_t a = PTHREAD_MUTEX_INITIALIZER, b = PTHREAD_MUTEX_INITIALI
 int main(int argc, char **argv) {
     if (argc < 2 || daemon(1, 0) != 0)
         return 1;
-    pthread_mutex_lock(&a);
-    pthread_mutex_lock(&b);
-    pthread_mutex_unlock(&b);
-    pthread_mutex_unlock(&a);
+    NEST(&a, &b);
     FILE *file = fopen(argv[1], "w");
     return file && fclose(file) == 0 ? 0 : 1;
 }

@@ -8,10 +8,7 @@ static void *takes(void *is_other) {
     pthread_mutex_t *first = which ? &b : &a, *second = which ? &a : &b;
     for (int i = 0; i < OWN; i++)
         pthread_mutex_lock(&own[which][i]);
-    pthread_mutex_lock(first);
-    pthread_mutex_lock(second);
-    pthread_mutex_unlock(second);
-    pthread_mutex_unlock(first);
+    NEST(first, second);
     for (int i = 0; i < OWN; i++)
         pthread_mutex_unlock(&own[which][i]);
     return NULL;

@@ -6,10 +6,7 @@ static pthread_rwlock_t rwlock, read_twice;
 static pthread_spinlock_t spin, gone;
 static mtx_t mtx;
 
-static APART void take_a(void) {
-    pthread_mutex_lock(&a);
-    pthread_mutex_unlock(&a);
-}
+static APART void take_a(void) { TAKE(&a); }
 
 static APART void mutexes(void) {
     pthread_mutex_init(&mutex, NULL);

@@ -6,10 +6,7 @@
 static pthread_mutex_t a = PTHREAD_MUTEX_INITIALIZER;
 #define PAGES 16384
 
-static APART void take_a(void) {
-    pthread_mutex_lock(&a);
-    pthread_mutex_unlock(&a);
-}
+static APART void take_a(void) { TAKE(&a); }
 
 struct object {
     char before[200];

@@ -36,21 +36,10 @@ static void assign_all(void) {
 static void in_child(void) {
     if (strcmp(way, "init") == 0)
         init_all();
-    if (strcmp(way, "mixed") == 0) {
-        pthread_mutex_lock(&gate);
-        pthread_mutex_unlock(&gate);
-    }
+    if (strcmp(way, "mixed") == 0)
+        TAKE(&gate);
     if (strcmp(way, "init") != 0)
         assign_all();
-}
-
-static void *take(void *locks) {
-    pthread_mutex_t **pair = locks;
-    pthread_mutex_lock(pair[0]);
-    pthread_mutex_lock(pair[1]);
-    pthread_mutex_unlock(pair[1]);
-    pthread_mutex_unlock(pair[0]);
-    return NULL;
 }
 
 int main(int argc, char **argv) {
@@ -60,8 +49,8 @@ int main(int argc, char **argv) {
     pthread_atfork(take_all, give_all, in_child);
     pid_t child = fork();
     if (child == 0) {
-        take((pthread_mutex_t *[]){&a, &b});
-        in_thread(take, is_both ? (pthread_mutex_t *[]){&b, &a} : (pthread_mutex_t *[]){&a, &b});
+        nest_pair((pthread_mutex_t *[]){&a, &b});
+        in_thread(nest_pair, is_both ? (pthread_mutex_t *[]){&b, &a} : (pthread_mutex_t *[]){&a, &b});
         _exit(0);
     }
     int status = 1;

@@ -15,14 +15,12 @@ int main(int argc, char **argv) {
     pthread_mutex_lock(&a);
     pid_t child = fork();
     if (child == 0) {
-        pthread_mutex_lock(&made);
-        pthread_mutex_unlock(&made);
+        TAKE(&made);
         pthread_mutex_unlock(&a);
         execl("/proc/self/exe", argv[0], "again", NULL);
         _exit(1);
     }
     waitpid(child, NULL, 0);
-    pthread_mutex_lock(&b);
-    pthread_mutex_unlock(&b);
+    TAKE(&b);
     pthread_mutex_unlock(&a);
 }

@@ -17,10 +17,7 @@ static int is_semaphore;
 static void take(void) { is_semaphore ? sem_wait(&semaphore) : pthread_mutex_lock(&mutex); }
 static void give(void) { is_semaphore ? sem_post(&semaphore) : pthread_mutex_unlock(&mutex); }
 
-static void take_x(void) {
-    pthread_mutex_lock(&x);
-    pthread_mutex_unlock(&x);
-}
+static void take_x(void) { TAKE(&x); }
 
 /* Turns are given by pipes, which no recorder takes for locks. */
 static int to_main[2], to_other[2];
@@ -127,8 +124,7 @@ static void *holds_second(void *unused) {
     pthread_mutex_lock(second);
     tell(to_main);
     await(to_other);
-    pthread_mutex_lock(&z);
-    pthread_mutex_unlock(&z);
+    TAKE(&z);
     pthread_mutex_unlock(second);
     return unused;
 }
@@ -138,13 +134,7 @@ static void *takes_first(void *unused) {
     return unused;
 }
 
-static void *takes_z_first(void *unused) {
-    pthread_mutex_lock(&z);
-    pthread_mutex_lock(second);
-    pthread_mutex_unlock(second);
-    pthread_mutex_unlock(&z);
-    return unused;
-}
+THREAD(takes_z_first, NEST(&z, second))
 
 static void hides(void) {
     pthread_t third;

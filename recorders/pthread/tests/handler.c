@@ -3,8 +3,7 @@
 static pthread_mutex_t a = PTHREAD_MUTEX_INITIALIZER, b = PTHREAD_MUTEX_INITIALIZER;
 
 static void handle(int number) {
-    pthread_mutex_lock(&b);
-    pthread_mutex_unlock(&b);
+    TAKE(&b);
     (void)number;
 }
 

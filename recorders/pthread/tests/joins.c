@@ -85,8 +85,7 @@ static pthread_t started(void *(*run)(void *)) {
 }
 
 static void *waits_for_condition(void *unused) {
-    pthread_mutex_lock(&state);
-    pthread_mutex_unlock(&state);
+    TAKE(&state);
     pthread_mutex_lock(&log_lock);
     set(&has_released, 1);
     while (!is_done)
@@ -181,8 +180,7 @@ int main(int argc, char **argv) {
     if (is("other"))
         join_under(&log_lock, started(worker));
     if (is("none") || is("early")) {
-        pthread_mutex_lock(&log_lock);
-        pthread_mutex_unlock(&log_lock);
+        TAKE(&log_lock);
         pthread_join(started(worker), NULL);
     }
     if (is("idle"))

@@ -7,8 +7,7 @@ static int count;
 static void *worker(void *unused) {
     for (int i = 0; i < count - 1; i++)
         pthread_mutex_lock(&locks[i]);
-    pthread_mutex_lock(&outer);
-    pthread_mutex_unlock(&outer);
+    TAKE(&outer);
     for (int i = count - 1; i-- > 0;)
         pthread_mutex_unlock(&locks[i]);
     return unused;

@@ -16,20 +16,9 @@ static APART void take_deeper(int deeper) {
     volatile char room[64] = {0};
     if (deeper)
         take_deeper(deeper - 1);
-    for (int i = 0; i < 1000; i++) {
-        pthread_mutex_lock(&lock);
-        pthread_mutex_unlock(&lock);
-    }
+    for (int i = 0; i < 1000; i++)
+        TAKE(&lock);
     room[0] = 1;
-}
-
-static void *take(void *locks) {
-    pthread_mutex_t **pair = locks;
-    pthread_mutex_lock(pair[0]);
-    pthread_mutex_lock(pair[1]);
-    pthread_mutex_unlock(pair[1]);
-    pthread_mutex_unlock(pair[0]);
-    return NULL;
 }
 
 static APART void jump_often(void) {
@@ -46,6 +35,6 @@ static APART void jump_often(void) {
 
 int main(void) {
     jump_often();
-    take((pthread_mutex_t *[]){&a, &b});
-    in_thread(take, (pthread_mutex_t *[]){&b, &a});
+    nest_pair((pthread_mutex_t *[]){&a, &b});
+    in_thread(nest_pair, (pthread_mutex_t *[]){&b, &a});
 }

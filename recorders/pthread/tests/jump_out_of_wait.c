@@ -16,10 +16,7 @@ static void alarm_soon(void) {
     setitimer(ITIMER_REAL, &soon, NULL);
 }
 
-static APART void take(pthread_mutex_t *lock) {
-    pthread_mutex_lock(lock);
-    pthread_mutex_unlock(lock);
-}
+static APART void take(pthread_mutex_t *lock) { TAKE(lock); }
 
 static APART void take_deeper(int deeper, pthread_mutex_t *lock) {
     volatile char room[64] = {0};

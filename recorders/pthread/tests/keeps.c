@@ -6,8 +6,7 @@ static pthread_mutex_t a = PTHREAD_MUTEX_INITIALIZER;
 int main(void) {
     struct rusage used;
     mlockall(MCL_CURRENT | MCL_FUTURE); /* it may not be allowed to */
-    pthread_mutex_lock(&a);
-    pthread_mutex_unlock(&a);
+    TAKE(&a);
     getrusage(RUSAGE_SELF, &used);
     return used.ru_maxrss < 500000 ? 0 : 1; /* in KiB */
 }

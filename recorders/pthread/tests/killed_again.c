@@ -4,12 +4,9 @@ static pthread_mutex_t a = PTHREAD_MUTEX_INITIALIZER, b = PTHREAD_MUTEX_INITIALI
 int main(void) {
     for (int i = 0; i < 100; i++) {
         pthread_mutex_lock(&a);
-        pthread_mutex_lock(&b);
-        pthread_mutex_unlock(&b);
-        if (i >= 98) {
-            pthread_mutex_lock(&b);
-            pthread_mutex_unlock(&b);
-        }
+        TAKE(&b);
+        if (i >= 98)
+            TAKE(&b);
         if (i == 99)
             pthread_mutex_lock(&c);
         if (i < 99)

@@ -18,10 +18,7 @@ static APART void init_robust(void) {
 
 int main(void) {
     pthread_mutex_lock(&recursive);
-    pthread_mutex_lock(&recursive);
-    pthread_mutex_lock(&inner);
-    pthread_mutex_unlock(&inner);
-    pthread_mutex_unlock(&recursive);
+    NEST(&recursive, &inner);
     pthread_mutex_unlock(&recursive);
     pthread_mutex_lock(&checking);
     if (pthread_mutex_lock(&checking) != EDEADLK)

@@ -13,20 +13,13 @@ static __thread pthread_mutex_t own;
 static void *addresses[LIVES];
 static int alike;
 
-static void take(pthread_mutex_t *first, pthread_mutex_t *second) {
-    pthread_mutex_lock(first);
-    pthread_mutex_lock(second);
-    pthread_mutex_unlock(second);
-    pthread_mutex_unlock(first);
-}
-
 static void *take_before_a(void *lock) {
-    take(lock, &a);
+    NEST(lock, &a);
     return NULL;
 }
 
 static void *take_after_a(void *lock) {
-    take(&a, lock);
+    NEST(&a, lock);
     return NULL;
 }
 
@@ -111,14 +104,9 @@ static APART void ended(void *(*thread)(void *)) {
         in_thread(thread, life ? &alike : NULL);
 }
 
-static void *take_before(void *locks) {
-    take(((pthread_mutex_t **)locks)[0], ((pthread_mutex_t **)locks)[1]);
-    return NULL;
-}
-
 static void use_both_ways(pthread_mutex_t *lock, pthread_mutex_t *other) {
-    in_thread(take_before, (pthread_mutex_t *[]){lock, other});
-    in_thread(take_before, (pthread_mutex_t *[]){other, lock});
+    in_thread(nest_pair, (pthread_mutex_t *[]){lock, other});
+    in_thread(nest_pair, (pthread_mutex_t *[]){other, lock});
 }
 
 static APART void kept(void) {
@@ -138,7 +126,7 @@ static APART void after_many(void) {
     for (volatile int i = 0; i <= MANY; i++) {
         pthread_mutex_init(&lock, NULL);
         if (i < MANY)
-            take(&c, &lock);
+            NEST(&c, &lock);
         else
             use_both_ways(&lock, &c);
         pthread_mutex_destroy(&lock);

@@ -2,21 +2,8 @@
 #include "common.h"
 static pthread_mutex_t a = PTHREAD_MUTEX_INITIALIZER, b = PTHREAD_MUTEX_INITIALIZER;
 
-static void *nests(void *unused) {
-    pthread_mutex_lock(&a);
-    pthread_mutex_lock(&b);
-    pthread_mutex_unlock(&b);
-    pthread_mutex_unlock(&a);
-    return unused;
-}
-
-static void *nests_otherwise(void *unused) {
-    pthread_mutex_lock(&b);
-    pthread_mutex_lock(&a);
-    pthread_mutex_unlock(&a);
-    pthread_mutex_unlock(&b);
-    return unused;
-}
+THREAD(nests, NEST(&a, &b))
+THREAD(nests_otherwise, NEST(&b, &a))
 
 int main(int argc, char **argv) {
     (void)argv;

@@ -3,9 +3,7 @@
 static pthread_mutex_t m[8300];
 int main(void) {
     pthread_mutex_lock(&m[8299]);
-    for (int i = 0; i < 8299; i++) {
-        pthread_mutex_lock(&m[i]);
-        pthread_mutex_unlock(&m[i]);
-    }
+    for (int i = 0; i < 8299; i++)
+        TAKE(&m[i]);
     pthread_mutex_unlock(&m[8299]);
 }

@@ -5,8 +5,7 @@ static pthread_mutex_t a = PTHREAD_MUTEX_INITIALIZER;
 static pthread_barrier_t all;
 
 static void *runs(void *unused) {
-    pthread_mutex_lock(&a);
-    pthread_mutex_unlock(&a);
+    TAKE(&a);
     pthread_barrier_wait(&all);
     pthread_barrier_wait(&all);
     return unused;

@@ -10,8 +10,7 @@ static void *reads(void *lock) {
     pthread_rwlock_rdlock(lock);
     pthread_barrier_wait(&both);
     pthread_barrier_wait(&both);
-    pthread_mutex_lock(&a);
-    pthread_mutex_unlock(&a);
+    TAKE(&a);
     pthread_rwlock_unlock(lock);
     return NULL;
 }

@@ -5,12 +5,8 @@ static pthread_barrier_t all;
 
 static void *runs(void *unused) {
     pthread_barrier_wait(&all);
-    for (int i = 0; i < 1000; i++) {
-        pthread_mutex_lock(&a);
-        pthread_mutex_lock(&b);
-        pthread_mutex_unlock(&b);
-        pthread_mutex_unlock(&a);
-    }
+    for (int i = 0; i < 1000; i++)
+        NEST(&a, &b);
     return unused;
 }
 

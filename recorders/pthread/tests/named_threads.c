@@ -1,35 +1,23 @@
 /* Threads with names: given by itself before its first lock and after it, by prctl, by its starter, and none. Two take
    their locks in opposite orders. One that takes no lock is named, and the next thread may get its number. */
-#define _GNU_SOURCE
-#include <pthread.h>
+#include "common.h"
 #include <sys/prctl.h>
 
 static pthread_mutex_t a = PTHREAD_MUTEX_INITIALIZER, b = PTHREAD_MUTEX_INITIALIZER, gate = PTHREAD_MUTEX_INITIALIZER;
 
-static void take(pthread_mutex_t *first, pthread_mutex_t *second) {
-    pthread_mutex_lock(first);
-    pthread_mutex_lock(second);
-    pthread_mutex_unlock(second);
-    pthread_mutex_unlock(first);
-}
-
 static void *pays(void *unused) {
     pthread_setname_np(pthread_self(), "payer");
-    take(&a, &b);
+    NEST(&a, &b);
     return unused;
 }
 
 static void *audits(void *unused) {
-    take(&b, &a);
+    NEST(&b, &a);
     pthread_setname_np(pthread_self(), "the\nauditor");
     return unused;
 }
 
-static void *waits(void *unused) {
-    pthread_mutex_lock(&gate);
-    pthread_mutex_unlock(&gate);
-    return unused;
-}
+THREAD(waits, TAKE(&gate))
 
 static void *calls_itself(void *unused) {
     prctl(PR_SET_NAME, "one-of-more-than-15-bytes");

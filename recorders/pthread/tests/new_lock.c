@@ -36,8 +36,7 @@ static void create_or_acquire(void) {
 
 static void *use(void *unused) {
     create_or_acquire();
-    pthread_mutex_lock(&global);
-    pthread_mutex_unlock(&global);
+    TAKE(&global);
     pthread_mutex_unlock(shared);
     return unused;
 }
@@ -48,12 +47,7 @@ static void *try_in_vain(void *unused) {
     return unused;
 }
 
-static void use_again(void) {
-    pthread_mutex_lock(&global);
-    pthread_mutex_lock(shared);
-    pthread_mutex_unlock(shared);
-    pthread_mutex_unlock(&global);
-}
+static void use_again(void) { NEST(&global, shared); }
 
 static void *use_timed(void *unused) {
     struct timespec until = in_milliseconds(CLOCK_REALTIME, 1000);
@@ -65,10 +59,7 @@ static void *use_timed(void *unused) {
     return unused;
 }
 
-static void take_and_give(pthread_mutex_t *lock) {
-    pthread_mutex_lock(lock);
-    pthread_mutex_unlock(lock);
-}
+static void take_and_give(pthread_mutex_t *lock) { TAKE(lock); }
 
 static void *waits(void *posted) {
     while (sem_wait(posted) != 0)
@@ -125,18 +116,11 @@ static void make_and_move_on(void) {
     make();
     pthread_mutex_lock(&other);
     pthread_mutex_unlock(&global);
-    pthread_mutex_lock(shared);
-    pthread_mutex_unlock(shared);
+    TAKE(shared);
     pthread_mutex_unlock(&other);
 }
 
-static void *use_other(void *unused) {
-    pthread_mutex_lock(shared);
-    pthread_mutex_lock(&other);
-    pthread_mutex_unlock(&other);
-    pthread_mutex_unlock(shared);
-    return unused;
-}
+THREAD(use_other, NEST(shared, &other))
 
 int main(int argc, char **argv) {
     const char *way = argc > 1 ? argv[1] : "";

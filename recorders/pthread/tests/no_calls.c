@@ -22,11 +22,7 @@ static void allow_only_the_end(void) {
 
 int main(void) {
     allow_only_the_end();
-    for (int i = 1; i < 2000; i++) {
-        pthread_mutex_lock(&m[0]);
-        pthread_mutex_lock(&m[i]);
-        pthread_mutex_unlock(&m[i]);
-        pthread_mutex_unlock(&m[0]);
-    }
+    for (int i = 1; i < 2000; i++)
+        NEST(&m[0], &m[i]);
     _exit(5);
 }

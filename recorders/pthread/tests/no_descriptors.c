@@ -6,10 +6,7 @@
 static pthread_mutex_t a = PTHREAD_MUTEX_INITIALIZER, b = PTHREAD_MUTEX_INITIALIZER, c = PTHREAD_MUTEX_INITIALIZER;
 
 static void *locks(void *lock) {
-    pthread_mutex_lock(&a);
-    pthread_mutex_lock(lock);
-    pthread_mutex_unlock(lock);
-    pthread_mutex_unlock(&a);
+    NEST(&a, lock);
     return NULL;
 }
 

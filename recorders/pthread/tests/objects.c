@@ -19,12 +19,7 @@ static void drop(pthread_mutex_t *m) {
     free(m);
 }
 
-static void take(pthread_mutex_t *first, pthread_mutex_t *second) {
-    pthread_mutex_lock(first);
-    pthread_mutex_lock(second);
-    pthread_mutex_unlock(second);
-    pthread_mutex_unlock(first);
-}
+static void take(pthread_mutex_t *first, pthread_mutex_t *second) { NEST(first, second); }
 
 static pthread_mutex_t *a, *b;
 
@@ -50,8 +45,7 @@ static void come_and_go(void) {
 static void take_alone(void) {
     for (int i = 0; i < 100; i++) {
         pthread_mutex_t *m = new_lock();
-        pthread_mutex_lock(m);
-        pthread_mutex_unlock(m);
+        TAKE(m);
     }
 }
 

@@ -5,10 +5,7 @@ static pthread_mutex_t a = PTHREAD_MUTEX_INITIALIZER;
 static pthread_once_t plain = PTHREAD_ONCE_INIT;
 static once_flag flag = ONCE_FLAG_INIT;
 
-static void take_a(void) {
-    pthread_mutex_lock(&a);
-    pthread_mutex_unlock(&a);
-}
+static void take_a(void) { TAKE(&a); }
 
 static void *runs(void *unused) {
     pthread_once(&plain, take_a);

@@ -18,8 +18,7 @@ int main(int argc, char **argv) {
     pthread_rwlock_wrlock(&two[0]);
     pthread_rwlock_rdlock(&two[1]);
     pthread_rwlock_unlock(&two[0]);
-    pthread_mutex_lock(&a);
-    pthread_mutex_unlock(&a);
+    TAKE(&a);
     pthread_rwlock_unlock(&two[1]);
     (void)argv;
 }

@@ -30,10 +30,7 @@ static APART struct mapped *new_mapped(void) {
     return mmap(NULL, sizeof(struct mapped), PROT_READ | PROT_WRITE, MAP_PRIVATE | MAP_ANONYMOUS, -1, 0);
 }
 
-static void take_b(void) {
-    pthread_mutex_lock(&b);
-    pthread_mutex_unlock(&b);
-}
+static void take_b(void) { TAKE(&b); }
 
 static void take_nothing(void) {}
 
@@ -45,22 +42,15 @@ static void first(struct spinning *s, struct once *o, struct mapped *m) {
     pthread_mutex_lock(&b);
     pthread_once(&o->control, take_nothing);
     pthread_mutex_unlock(&b);
-    pthread_mutex_lock(&c);
-    pthread_mutex_lock(&m->lock);
-    pthread_mutex_unlock(&m->lock);
-    pthread_mutex_unlock(&c);
+    NEST(&c, &m->lock);
 }
 
 static void second(struct spinning *s, struct once *o, struct mapped *m) {
     pthread_spin_lock(&s->lock);
-    pthread_mutex_lock(&a);
-    pthread_mutex_unlock(&a);
+    TAKE(&a);
     pthread_spin_unlock(&s->lock);
     pthread_once(&o->control, take_b);
-    pthread_mutex_lock(&m->lock);
-    pthread_mutex_lock(&c);
-    pthread_mutex_unlock(&c);
-    pthread_mutex_unlock(&m->lock);
+    NEST(&m->lock, &c);
 }
 
 int main(int argc, char **argv) {

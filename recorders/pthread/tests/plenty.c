@@ -29,10 +29,7 @@ static APART void plenty(int depth) {
     deeper++;
 }
 
-static void take_inner(void) {
-    pthread_mutex_lock(&inner);
-    pthread_mutex_unlock(&inner);
-}
+static void take_inner(void) { TAKE(&inner); }
 
 static APART void spin_around(pthread_spinlock_t *lock) {
     *lock = 1; /* as pthread_spin_init leaves it */

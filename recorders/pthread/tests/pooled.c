@@ -5,10 +5,7 @@ static pthread_mutex_t *links[2];
 
 static void *under(void *parent) {
     pthread_mutex_t *child = links[parent == links[0]];
-    pthread_mutex_lock(parent);
-    pthread_mutex_lock(child);
-    pthread_mutex_unlock(child);
-    pthread_mutex_unlock(parent);
+    NEST(parent, child);
     return NULL;
 }
 

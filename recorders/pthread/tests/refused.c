@@ -52,8 +52,7 @@ static void refused_releases(void) {
     pthread_mutex_lock(&checked);
     pthread_mutex_lock(&recursive);
     in_thread(releases, NULL);
-    pthread_mutex_lock(&other);
-    pthread_mutex_unlock(&other);
+    TAKE(&other);
     pthread_mutex_unlock(&recursive);
     pthread_mutex_unlock(&checked);
     is(pthread_mutex_unlock(&checked), EPERM);

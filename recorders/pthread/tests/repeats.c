@@ -5,12 +5,9 @@ static pthread_mutex_t a = PTHREAD_MUTEX_INITIALIZER, b = PTHREAD_MUTEX_INITIALI
 int main(void) {
     for (int i = 0; i < 250000; i++) {
         pthread_mutex_lock(&a);
-        pthread_mutex_lock(&b);
-        pthread_mutex_unlock(&b);
-        if (i == 125000) {
-            pthread_mutex_lock(&c);
-            pthread_mutex_unlock(&c);
-        }
+        TAKE(&b);
+        if (i == 125000)
+            TAKE(&c);
         pthread_mutex_unlock(&a);
     }
     pthread_mutex_lock(&a);

@@ -17,19 +17,9 @@ static inline __attribute__((always_inline)) struct account *make(void) {
 static APART struct account *new_account(void) { return make(); }
 static APART struct account *new_journal(void) { return make(); }
 
-static APART void take_first(struct account *a) {
-    pthread_mutex_lock(&outer);
-    pthread_mutex_lock(&a->lock);
-    pthread_mutex_unlock(&a->lock);
-    pthread_mutex_unlock(&outer);
-}
+static APART void take_first(struct account *a) { NEST(&outer, &a->lock); }
 
-static APART void take_last(struct account *a) {
-    pthread_mutex_lock(&a->lock);
-    pthread_mutex_lock(&outer);
-    pthread_mutex_unlock(&outer);
-    pthread_mutex_unlock(&a->lock);
-}
+static APART void take_last(struct account *a) { NEST(&a->lock, &outer); }
 
 static APART void local_first(int depth) {
     struct account local = {depth, PTHREAD_MUTEX_INITIALIZER};

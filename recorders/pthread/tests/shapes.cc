@@ -22,34 +22,32 @@ typedef std::lock_guard<std::mutex> Guard;
 /* The name that the next lock is to have. */
 #define EXPECT(name) printf("%s\n", name)
 #define NOINLINE __attribute__((noinline))
+/* What a function does under a lock; and an object of a type that takes its lock. */
+#define UNDER(lock, ...) \
+    { \
+        Guard g(lock); \
+        __VA_ARGS__; \
+    }
+#define WORKS(name, object, ...) \
+    EXPECT(name); \
+    auto object = std::make_unique<__VA_ARGS__>(); \
+    object->work()
 struct Plain {
     int a = 0;
     std::mutex m;
-    void work() {
-        Guard g(m);
-        a++;
-    }
+    void work() UNDER(m, a++)
 };
 struct Two {
     std::mutex first, second;
     int a = 0;
-    void one() {
-        Guard g(first);
-        a++;
-    }
-    void two() {
-        Guard g(second);
-        a--;
-    }
+    void one() UNDER(first, a++)
+    void two() UNDER(second, a--)
 };
 struct Base {
     virtual ~Base() {}
     std::mutex base_mu;
     int n = 0;
-    void locked() {
-        Guard g(base_mu);
-        n++;
-    }
+    void locked() UNDER(base_mu, n++)
 };
 struct Derived : Base {
     std::string s;
@@ -74,14 +72,8 @@ struct Outer {
         std::mutex im;
     } in;
     std::mutex om;
-    void a() {
-        Guard g(in.im);
-        x++;
-    }
-    void b() {
-        Guard g(om);
-        x--;
-    }
+    void a() UNDER(in.im, x++)
+    void b() UNDER(om, x--)
 };
 class Mutex {
     pthread_mutex_t m_;
@@ -110,10 +102,7 @@ struct Wrapped {
 template <class K, class V> struct Cache {
     std::map<K, V> m;
     std::mutex cmu;
-    void put(K k, V v) {
-        Guard g(cmu);
-        m[k] = v;
-    }
+    void put(K k, V v) UNDER(cmu, m[k] = v)
 };
 struct Shard {
     std::mutex smu;
@@ -121,35 +110,23 @@ struct Shard {
 };
 struct Sharded {
     Shard shards[16];
-    void work(int i) {
-        Guard g(shards[i].smu);
-        shards[i].n++;
-    }
+    void work(int i) UNDER(shards[i].smu, shards[i].n++)
 };
 struct Striped {
     std::array<std::mutex, 8> stripes;
     int n = 0;
-    void work(int i) {
-        Guard g(stripes[i]);
-        n++;
-    }
+    void work(int i) UNDER(stripes[i], n++)
 };
 struct VecLocks {
     std::vector<std::mutex> locks;
     int n = 0;
     VecLocks() : locks(12) {}
-    void work(int i) {
-        Guard g(locks[i]);
-        n++;
-    }
+    void work(int i) UNDER(locks[i], n++)
 };
 struct PtrLock {
     std::unique_ptr<std::mutex> up = std::make_unique<std::mutex>();
     int n = 0;
-    void work() {
-        Guard g(*up);
-        n++;
-    }
+    void work() UNDER(*up, n++)
 };
 struct Anonymous {
     union {
@@ -159,10 +136,7 @@ struct Anonymous {
         std::mutex deep;
         int q;
     } st;
-    void work() {
-        Guard g(st.deep);
-        st.q++;
-    }
+    void work() UNDER(st.deep, st.q++)
 };
 union U {
     U() {}
@@ -174,10 +148,7 @@ struct HasUnion {
     int tag = 1;
     U u;
     HasUnion() { new (&u.um) std::mutex; }
-    void work() {
-        Guard g(u.um);
-        tag++;
-    }
+    void work() UNDER(u.um, tag++)
 };
 struct HasOptional {
     std::optional<Plain> o;
@@ -218,10 +189,7 @@ namespace {
 struct Secret {
     std::mutex sm;
     int n = 0;
-    void work() {
-        Guard g(sm);
-        n++;
-    }
+    void work() UNDER(sm, n++)
 };
 std::mutex anon_mu;
 } // namespace
@@ -234,10 +202,7 @@ struct Registry {
     }
     std::mutex rmu;
     int n = 0;
-    void add() {
-        Guard g(rmu);
-        n++;
-    }
+    void add() UNDER(rmu, n++)
 };
 struct Cls {
     static std::mutex s_mu;
@@ -307,10 +272,7 @@ struct Node {
     Node(int k) : k(k) {}
     int k;
     std::mutex nm;
-    void work() {
-        Guard g(nm);
-        k++;
-    }
+    void work() UNDER(nm, k++)
 };
 NOINLINE void lock_ref(std::mutex &m) {
     Guard g(m);
@@ -368,9 +330,7 @@ NOINLINE long uses_it() {
 }
 int main() {
 
-    EXPECT("shapes.cc:Plain::m");
-    auto p = std::make_unique<Plain>();
-    p->work();
+    WORKS("shapes.cc:Plain::m", p, Plain);
     EXPECT("shapes.cc:Two::first");
     EXPECT("shapes.cc:Two::second");
     auto t = std::make_shared<Two>();
@@ -387,9 +347,7 @@ int main() {
     auto o = std::make_unique<Outer>();
     o->a();
     o->b();
-    EXPECT("shapes.cc:Wrapped::wmu");
-    auto w = std::make_unique<Wrapped>();
-    w->work();
+    WORKS("shapes.cc:Wrapped::wmu", w, Wrapped);
     EXPECT("shapes.cc:Cache<*>::cmu");
     auto c = std::make_unique<Cache<std::string, std::vector<int>>>();
     c->put("a", {1});
@@ -402,15 +360,9 @@ int main() {
     EXPECT("shapes.cc:VecLocks::locks[]");
     auto vl = std::make_unique<VecLocks>();
     vl->work(4);
-    EXPECT("shapes.cc:PtrLock::up");
-    auto pl = std::make_unique<PtrLock>();
-    pl->work();
-    EXPECT("shapes.cc:Anonymous::st.deep");
-    auto an = std::make_unique<Anonymous>();
-    an->work();
-    EXPECT("shapes.cc:U::um");
-    auto hu = std::make_unique<HasUnion>();
-    hu->work();
+    WORKS("shapes.cc:PtrLock::up", pl, PtrLock);
+    WORKS("shapes.cc:Anonymous::st.deep", an, Anonymous);
+    WORKS("shapes.cc:U::um", hu, HasUnion);
     EXPECT("shapes.cc:Plain::m");
     auto ho = std::make_unique<HasOptional>();
     ho->o.emplace();
@@ -429,18 +381,14 @@ int main() {
     early = (Early *)calloc(1, sizeof *early);
     leaves_pointers();
     uses_it();
-    EXPECT("shapes.cc:Secret::sm");
-    auto se = std::make_unique<Secret>();
-    se->work();
+    WORKS("shapes.cc:Secret::sm", se, Secret);
     EXPECT("shapes_other.cc:Hidden::inner");
     Hidden *h = make_hidden();
     use_hidden(h);
     EXPECT("shapes_other.cc:Pimpl::Impl::guts");
     Pimpl pi;
     pi.work();
-    EXPECT("lib::Inline::mu");
-    auto in = std::make_unique<lib::Inline>();
-    in->work();
+    WORKS("lib::Inline::mu", in, lib::Inline);
     EXPECT("shapes.cc:anon_mu");
     { Guard g(anon_mu); }
     EXPECT("shapes.cc:app::ns_mu");
@@ -469,12 +417,8 @@ int main() {
     EXPECT("shapes.cc:Rec::rm");
     auto re = std::make_unique<Rec>();
     re->a();
-    EXPECT("shapes.cc:Uniq::um");
-    auto un = std::make_unique<Uniq>();
-    un->work();
-    EXPECT("shapes.cc:Scoped::sc");
-    auto sc = std::make_unique<Scoped>();
-    sc->work();
+    WORKS("shapes.cc:Uniq::um", un, Uniq);
+    WORKS("shapes.cc:Scoped::sc", sc, Scoped);
     EXPECT("shapes.cc:Node::nm");
     std::list<Node> ln;
     ln.emplace_back(1);
@@ -491,9 +435,7 @@ int main() {
     std::deque<Node> dn;
     dn.emplace_back(1);
     dn.back().work();
-    EXPECT("shapes.cc:ByRef::rf");
-    auto br = std::make_unique<ByRef>();
-    br->work();
+    WORKS("shapes.cc:ByRef::rf", br, ByRef);
     EXPECT("shapes.cc:Tail::tm");
     auto ta = std::make_unique<Tail>();
     tail_user(*ta);

@@ -16,10 +16,7 @@ static APART void make_idle(void) { sem_init(&idle, 0, 0); }
 static APART void make_mutex(void) { sem_init(&mutex, 0, 1); }
 static APART void make_both(void) { sem_init(both, 1, 0); }
 
-static void take_x(void) {
-    pthread_mutex_lock(&x);
-    pthread_mutex_unlock(&x);
-}
+static void take_x(void) { TAKE(&x); }
 
 static void *idles(void *lock) {
     if (lock)
@@ -71,8 +68,7 @@ static void *waits_under_x(void *unused) {
         sem_wait(&full);
     pthread_mutex_lock(&x);
     sem_wait(&full);
-    pthread_mutex_lock(&y);
-    pthread_mutex_unlock(&y);
+    TAKE(&y);
     sem_wait(&full);
     pthread_mutex_unlock(&x);
     take_x();

@@ -18,6 +18,5 @@ int main(void) {
     pthread_spin_unlock(&a);
     pthread_spin_lock(&b);
     in_thread(releases_b, NULL);
-    pthread_mutex_lock(&m);
-    pthread_mutex_unlock(&m);
+    TAKE(&m);
 }

@@ -33,12 +33,7 @@ static void nests(unsigned from, unsigned count) {
         pthread_mutex_unlock(&locks[(from + i) % STATIC]);
 }
 
-static void visits(unsigned which) {
-    pthread_mutex_lock(&pieces[which]->lock);
-    pthread_mutex_lock(&locks[3 + which % 2]);
-    pthread_mutex_unlock(&locks[3 + which % 2]);
-    pthread_mutex_unlock(&pieces[which]->lock);
-}
+static void visits(unsigned which) { NEST(&pieces[which]->lock, &locks[3 + which % 2]); }
 
 static void goes_hand_over_hand(unsigned from) {
     pthread_mutex_lock(&pieces[from]->lock);
@@ -53,8 +48,7 @@ static void comes_again(unsigned depth) {
     pthread_mutex_lock(&recursive);
     if (depth)
         comes_again(depth - 1);
-    pthread_mutex_lock(&made);
-    pthread_mutex_unlock(&made);
+    TAKE(&made);
     pthread_mutex_unlock(&recursive);
 }
 

@@ -6,10 +6,7 @@ static pthread_mutex_t a = PTHREAD_MUTEX_INITIALIZER, plain = PTHREAD_MUTEX_INIT
 static pthread_rwlock_t written = PTHREAD_RWLOCK_INITIALIZER, read_later = PTHREAD_RWLOCK_INITIALIZER,
                         read_twice = PTHREAD_RWLOCK_INITIALIZER;
 
-static APART void take_a(void) {
-    pthread_mutex_lock(&a);
-    pthread_mutex_unlock(&a);
-}
+static APART void take_a(void) { TAKE(&a); }
 
 static APART void mutexes(void) {
     pthread_mutex_lock(&plain);
@@ -33,8 +30,7 @@ static APART void recursive_ones(void) {
     pthread_mutex_unlock(&recursive);
     take_a();
     recursive = (pthread_mutex_t)PTHREAD_RECURSIVE_MUTEX_INITIALIZER_NP;
-    pthread_mutex_lock(&recursive);
-    pthread_mutex_unlock(&recursive);
+    TAKE(&recursive);
     take_a();
 }
 

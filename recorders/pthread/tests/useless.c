@@ -11,8 +11,7 @@ static void *waits(void *unused) {
     is_waiting = 1;
     if (pthread_cond_timedwait(&changed, &m, &later) != ENOTRECOVERABLE)
         abort();
-    pthread_mutex_lock(&b);
-    pthread_mutex_unlock(&b);
+    TAKE(&b);
     return unused;
 }
 

@@ -25,8 +25,7 @@ static void *holds(void *unused) {
 }
 
 static void handle(int number) {
-    pthread_mutex_lock(&b);
-    pthread_mutex_unlock(&b);
+    TAKE(&b);
     is_handled = number;
 }
 
@@ -54,9 +53,6 @@ int main(void) {
     wait_in_vain();
     signal(SIGALRM, handle);
     pthread_barrier_wait(&both);
-    pthread_mutex_lock(&a);
-    pthread_mutex_lock(&taken);
-    pthread_mutex_unlock(&taken);
-    pthread_mutex_unlock(&a);
+    NEST(&a, &taken);
     pthread_join(t, NULL);
 }
