@@ -363,8 +363,10 @@ void begin_in_fork(void) {
 }
 
 static void begin(void) {
-    const char *folder = variable("LOCKDEP_RECORD");
-    if (!folder || !folder[0] || length_of(folder) + 64 > 4096)
+    if (waits_for_library())
+        return;
+    const char *folder = is_for_libraries ? folder_of_libraries : variable("LOCKDEP_RECORD");
+    if (!folder || !folder[0] || length_of(folder) >= MOST_OF_FOLDER)
         return;
     populate(life_page(), USED_OF_VARIABLES, USED_OF_VARIABLES); /* before any of these is written to */
     nearby_used = (uint64_t)((char *)life_page() + PAGE - nearby);
@@ -383,6 +385,15 @@ static void begin(void) {
     begin_threads();
     begin_life();
     STORE(&made->magic, RAW_MAGIC);
+}
+
+/* The first call of a library for which alone this process is recorded. */
+void begin_for_library(void) {
+    int saved = errno;
+    begin_inside(HERE);
+    begin();
+    end_inside();
+    errno = saved;
 }
 
 /* It isn't 0, so that it lies in the page that the loader has written already: the others aren't there yet. */
