@@ -289,6 +289,11 @@ static void set_rights(int file) {
     fchmod(file, RIGHTS);
 }
 
+static void leave_refusal(char *path) {
+    strcpy(strrchr(path, '.'), ".refused");
+    mknod(path, S_IFREG | 0644, 0); /* it needs no descriptor */
+}
+
 /* Makes the process's file. The name has the process's number, and how many programs that process has run before. Without memory of
    its own the library can't use it, and says so by the file that it leaves. */
 static struct raw_arena *make_file(const char *folder, uint32_t id, uint64_t allowed) {
@@ -308,14 +313,18 @@ static struct raw_arena *make_file(const char *folder, uint32_t id, uint64_t all
         if (!made)
             unlink(path);
     }
-    if (!made) {
-        strcpy(strrchr(path, '.'), ".refused");
-        mknod(path, S_IFREG | 0644, 0); /* it needs no descriptor */
-    }
+    if (!made)
+        leave_refusal(path);
     return made;
 }
 
 static uint32_t process_id(void) { return (uint32_t)SYSTEM(getpid); }
+
+void say_refused(void) {
+    char path[MOST_OF_FOLDER + 64];
+    put_file_name(path, folder_of_libraries, process_id(), 0);
+    leave_refusal(path);
+}
 
 static void note_process(uint32_t id, uint32_t parent) {
     STORE(&own_id, id);

@@ -81,7 +81,8 @@ static bool is_of_program(const char *path) {
     for (size_t i = 0; i < sizeof system / sizeof *system; i++)
         if (begins_with(path, system[i]))
             return false;
-    return has_text(name, ".so") && !begins_with(name, "libpython") && !has_text(path, "/lib-dynload/") && !is_of_machine(path);
+    bool is_interpreters = begins_with(name, "libpython") || begins_with(name, "libpypy") || has_text(path, "/lib-dynload/");
+    return has_text(name, ".so") && !is_interpreters && !is_of_machine(path);
 }
 
 /* What is known of callers: each is an address, and in its lowest bit whether a library of the program's is there, so that one word says all. When
@@ -112,18 +113,27 @@ static bool is_call_of_library(uintptr_t caller) {
 
 /* ---- The beginning. */
 
+static uint32_t beginner; /* the process in which it began */
+
+/* Whether this process was forked meanwhile, by another thread than the one that begins: then nobody goes on with it here. */
+static bool is_left_alone(void) { return LOAD(&beginner) && LOAD(&beginner) != (uint32_t)SYSTEM(getpid); }
+
 /* Another thread that comes meanwhile waits, since it would else be seen to release what it wasn't seen to take. */
 bool begin_with_library(void) {
-    uint32_t there = WAITING;
+    uint32_t there = WAITING, beginning = BEGINNING;
     if (is_inside() || LOAD(&state) == NEVER)
         return false;
     if (SWAP(&state, &there, BEGINNING)) {
+        STORE(&beginner, (uint32_t)SYSTEM(getpid));
         begin_for_library();
         STORE(&state, BEGUN);
     }
-    while (LOAD(&state) == BEGINNING)
+    while (LOAD(&state) == BEGINNING) {
+        if (is_left_alone() && SWAP(&state, &beginning, NEVER))
+            say_refused();
         sched_yield();
-    return is_recording();
+    }
+    return LOAD(&state) == BEGUN && is_recording();
 }
 
 bool comes_from_library(struct call call) {

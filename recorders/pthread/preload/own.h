@@ -92,6 +92,7 @@ enum begin_state { BEGIN_NOT = 1, BEGIN_UNDER_WAY, BEGIN_DONE };
 extern int begin_state;
 void begin_now(void);
 void begin_for_library(void);
+void say_refused(void); /* that this process isn't recorded */
 static inline void begin_once(void) {
     if (RARELY(LOAD(&begin_state) != BEGIN_DONE))
         begin_now();
