@@ -82,33 +82,39 @@ static bool is_of_program(const char *path) {
         if (begins_with(path, system[i]))
             return false;
     bool is_interpreters = begins_with(name, "libpython") || begins_with(name, "libpypy") || has_text(path, "/lib-dynload/");
-    return has_text(name, ".so") && !is_interpreters && !is_of_machine(path);
+    return has_text(name, ".so") && !is_interpreters && !has_text(path, "/out/preload.so") && !is_of_machine(path);
 }
 
-/* What is known of callers: each is an address, and in its lowest bit whether a library of the program's is there, so that one word says all. When
-   a library is opened or closed all is forgotten, since another one may come to lie there. */
-#define KNOWN 256
-static uint64_t known[KNOWN];
+/* Whose a place in memory is. Code of nobody's is what a virtual machine has compiled, and libffi calls for others: neither takes locks for itself, so
+   what seems to be called there was left by a jump of the function that a library ends with. Memory of nobody's is what was allocated. */
+enum whose { OF_OTHERS, OF_LIBRARY, OF_NOBODY, OF_FFI };
 
-static uint64_t *known_at(uintptr_t caller) { return &known[mixed(caller) % KNOWN]; }
+/* What is known of callers and of locks: each is an address, and in its lowest bits whose it is, so that one word says all. When a library is opened or
+   closed all is forgotten, since another one may come to lie there. */
+#define KNOWN 256
+static uint64_t callers[KNOWN], locks[KNOWN];
 
 void forget_callers(void) {
-    for (size_t i = 0; is_for_libraries && i < KNOWN; i++)
-        STORE(&known[i], 0);
+    for (size_t i = 0; is_for_libraries && i < KNOWN; i++) {
+        STORE(&callers[i], 0);
+        STORE(&locks[i], 0);
+    }
 }
 
-__attribute__((noinline)) static bool look_at_caller(uintptr_t caller) {
+__attribute__((noinline)) static enum whose look_at_place(uintptr_t address) {
     char path[RAW_PATH + 1];
-    if (!put_path_of(caller, path))
-        return false;
-    bool is_one = is_of_program(path);
-    STORE(known_at(caller), (uint64_t)caller << 1 | is_one);
-    return is_one;
+    if (!put_path_of(address, path))
+        return OF_NOBODY;
+    return is_of_program(path) ? OF_LIBRARY : begins_with(name_in(path), "libffi") ? OF_FFI : OF_OTHERS;
 }
 
-static bool is_call_of_library(uintptr_t caller) {
-    uint64_t there = LOAD(known_at(caller));
-    return LIKELY(there >> 1 == caller) ? there & 1 : look_at_caller(caller);
+static enum whose whose(uint64_t *known, uintptr_t address) {
+    uint64_t *at = &known[mixed(address) % KNOWN], there = LOAD(at);
+    if (LIKELY(there >> 2 == address && there))
+        return (enum whose)(there & 3);
+    enum whose found = look_at_place(address);
+    STORE(at, (uint64_t)address << 2 | found);
+    return found;
 }
 
 /* ---- The beginning. */
@@ -136,10 +142,29 @@ bool begin_with_library(void) {
     return LOAD(&state) == BEGUN && is_recording();
 }
 
-bool comes_from_library(struct call call) {
-    if (LOAD(&state) == NEVER || !is_call_of_library(call.caller))
+static bool has_begun(void) { return LIKELY(LOAD(&state) == BEGUN) ? is_recording() : begin_with_library(); }
+
+bool comes_from_library(struct call call) { return LOAD(&state) != NEVER && whose(callers, call.caller) == OF_LIBRARY && has_begun(); }
+
+/* Also if a library has the lock, or has come to it before, or if nobody seems to call about one that nobody's module has. */
+bool is_of_library(uintptr_t lock, struct call call) {
+    if (LOAD(&state) == NEVER)
         return false;
-    return LIKELY(LOAD(&state) == BEGUN) ? is_recording() : begin_with_library();
+    enum whose caller = whose(callers, call.caller);
+    if (caller != OF_LIBRARY) {
+        if (is_recording() && lock_object(lock))
+            return true;
+        enum whose in = whose(locks, lock);
+        if (in != OF_LIBRARY && (in != OF_NOBODY || caller == OF_OTHERS))
+            return false;
+    }
+    return has_begun();
 }
 
-bool is_of_library(uintptr_t lock, struct call call) { return comes_from_library(call) || (is_recording() && lock_object(lock)); }
+/* A release of what this thread wasn't seen to take. */
+bool is_release_of_library(uintptr_t lock, struct call call) {
+    if (LOAD(&state) == NEVER)
+        return false;
+    enum whose caller = whose(callers, call.caller);
+    return caller == OF_LIBRARY ? has_begun() : caller != OF_OTHERS && is_recording() && lock_object(lock);
+}

@@ -219,7 +219,8 @@ extern char folder_of_libraries[MOST_OF_FOLDER];
 bool waits_for_library(void);
 bool comes_from_library(struct call call); /* the first such call begins the recording */
 bool begin_with_library(void);
-bool is_of_library(uintptr_t lock, struct call call); /* or such a call came to the lock before */
+bool is_of_library(uintptr_t lock, struct call call); /* or the lock is a library's */
+bool is_release_of_library(uintptr_t lock, struct call call);
 void forget_callers(void);
 /* Whether the call is to be recorded, of that lock, or whatever lock it is about. */
 #define IS_WANTED(lock, call) (LIKELY(!is_for_libraries) || is_of_library(lock, call))

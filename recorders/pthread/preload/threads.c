@@ -650,7 +650,7 @@ static bool release_own(struct thread *t, uintptr_t lock, struct call call) {
 /* Whether a release may be one of what was recorded: of a lock that this thread holds, or that such a library gives back. */
 static bool is_wanted_release(uintptr_t lock, struct call call) {
     struct thread *t = self.thread;
-    return LIKELY(!is_for_libraries) || (t && (t->unnoted || find_held(t, lock) != RAW_HELD)) || comes_from_library(call);
+    return LIKELY(!is_for_libraries) || (t && (t->unnoted || find_held(t, lock) != RAW_HELD)) || is_release_of_library(lock, call);
 }
 
 void releasing(uintptr_t lock, struct call call) {
