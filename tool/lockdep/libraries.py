@@ -22,7 +22,7 @@ TASK = re.compile(r"\btask-([0-9]{4,})\b")
 BESIDE = (TASKS, LIVES, WEAK, "breaches")  # files whose lines name traces
 OF_THREADS = "library-threads"
 RENAMED = {"threads": OF_THREADS, "deep-binding": "bound-libraries"}  # codes that mean something else here
-OF_PROGRAM = ("processes",)  # is counted by the program's own recorder
+APART = ("processes", "at-exit")  # are no sums: the first is counted by the program's own recorder
 
 
 # ---- The beginning.
@@ -180,8 +180,10 @@ def add_counts(summary: Summary, found: Summary, first: int) -> None:
         set_number(summary, "threads", found.number("threads"))
     if found.operations():
         summary.counts = [count for count in summary.counts if count.code != "library-only" and not is_of_nothing(count)]
+    if found.number("waiting"):  # (of the program's own threads it isn't known whether they waited at an exit, so they count as such)
+        summary.counts.append(Count("at-exit", found.number("at-exit") + summary.number("waiting")))
     for count in found.counts:
-        if not count.number or count.code in OF_PROGRAM:
+        if not count.number or count.code in APART:
             continue
         code = RENAMED.get(count.code, count.code)
         words = count.words if code == count.code else losses.words_of(code, "pthread")
