@@ -8,7 +8,7 @@ import re
 from . import losses
 from .building import is_preloadable, recorder_folder
 from .finishing import MOST_KEYS, MOST_TRACES, trace_name
-from .folder import LIVES, OBJECTS, TASKS, WEAK, Folder
+from .folder import LIVES, OBJECTS, TASKS, WEAK, Folder, remove_tree
 from .processes import find_command, output_of, run
 from .recording import STAGE, is_of_musl, with_asan_after
 from .saying import Refusal
@@ -28,18 +28,28 @@ APART = ("processes", "at-exit")  # are no sums: the first is counted by the pro
 # ---- The beginning.
 
 def watched(home: str, folder: Folder, words: list[str], environment: dict[str, str]) -> dict[str, str]:
-    """An environment in which the libraries of a command are looked at. It is as it was if that isn't possible, as without a C compiler: then they are
-    named."""
+    """An environment in which the libraries of a command are looked at. It is as it was if that isn't possible, as without a C compiler: then they
+    are named."""
     environment = without(environment)
-    library, program = preload(home, folder), find_command(words[0])[0]
-    if not library or not program or is_of_musl(program):
+    program = find_command(words[0])[0]
+    try:
+        library = preload(home, folder) if program and not is_of_musl(program) else None
+        raw = folder_inside(folder) if library else ""
+    except OSError:
         return environment
+    if not library:
+        return environment
+    others = environment.get("LD_PRELOAD")
+    return with_asan_after(dict(environment, LD_PRELOAD=library + (":" + others if others else ""), **{VARIABLE: raw}))
+
+
+def folder_inside(folder: Folder) -> str:
+    """Makes the folder that the preloaded recorder writes to."""
     raw = os.path.join(folder.raw, INSIDE, "raw")
     os.makedirs(raw, exist_ok=True)
     for each in (raw, os.path.dirname(raw)):
         os.chmod(each, RIGHTS)
-    others = environment.get("LD_PRELOAD")
-    return with_asan_after(dict(environment, LD_PRELOAD=library + (":" + others if others else ""), **{VARIABLE: raw}))
+    return raw
 
 
 def without(environment: dict[str, str]) -> dict[str, str]:
@@ -57,7 +67,8 @@ def preload(home: str, folder: Folder) -> str | None:
         stage = os.path.join(os.path.realpath(folder.path), STAGE)
         if not is_preloadable(stage):
             return None
-        os.makedirs(stage, exist_ok=True)
+        remove_tree(stage)  # (it may be that of a recording that was killed)
+        os.makedirs(stage)
         os.symlink(out, os.path.join(stage, "out"))
         out = os.path.join(stage, "out")
     return os.path.join(out, "preload.so")

@@ -1,6 +1,6 @@
-/* With LOCKDEP_LIBRARIES in place of LOCKDEP_RECORD: what is recorded are the locks of the C libraries that a program in Python or Java has loaded, and
-   nothing else. The process is as if there was no recorder until such a library calls for the first time. From then on a lock is recorded if such a library has
-   made or taken it, whoever takes it later. Those of the interpreter, of the virtual machine and of the system's libraries aren't. */
+/* With LOCKDEP_LIBRARIES in place of LOCKDEP_RECORD: what is recorded are the locks of the C libraries that a program in Python or Java has loaded,
+   and nothing else. The process is as if there was no recorder until such a library calls for the first time. From then on a lock is recorded if such
+   a library has made or taken it, whoever takes it later. Those of the interpreter, of the virtual machine and of the system's libraries aren't. */
 #include "own.h"
 
 #include <fcntl.h>
@@ -85,12 +85,12 @@ static bool is_of_program(const char *path) {
     return has_text(name, ".so") && !is_interpreters && !has_text(path, "/out/preload.so") && !is_of_machine(path);
 }
 
-/* Whose a place in memory is. Code of nobody's is what a virtual machine has compiled, and libffi calls for others: neither takes locks for itself, so
-   what seems to be called there was left by a jump of the function that a library ends with. Memory of nobody's is what was allocated. */
+/* Whose a place in memory is. Code of nobody's is what a virtual machine has compiled, and libffi calls for others: neither takes locks for itself,
+   so what seems to be called there was left by a jump of the function that a library ends with. Memory of nobody's is what was allocated. */
 enum whose { OF_OTHERS, OF_LIBRARY, OF_NOBODY, OF_FFI };
 
-/* What is known of callers and of locks: each is an address, and in its lowest bits whose it is, so that one word says all. When a library is opened or
-   closed all is forgotten, since another one may come to lie there. */
+/* What is known of callers and of locks: each is an address, and in its lowest bits whose it is, so that one word says all. When a library is opened
+   or closed all is forgotten, since another one may come to lie there. */
 #define KNOWN 256
 static uint64_t callers[KNOWN], locks[KNOWN];
 
