@@ -20,14 +20,14 @@ leave_out() {
 # Inside another recording this one takes over: what this script and its command start is no part of the other one, which finds a note of that
 # beside what it recorded. The other one's library is in this process already, so the script begins once more without it.
 leave_other_recording() {
-    case ${LOCKDEP_RECORD:+${LD_PRELOAD-}} in
+    case ${LOCKDEP_RECORD:+${LD_PRELOAD-}}${LOCKDEP_LIBRARIES:+${LD_PRELOAD-}} in
         */out/preload.so*) ;;
         *) return ;;
     esac
     leave_out '*/out/preload.so' ' :' "$LD_PRELOAD"
     if [ -n "$kept" ]; then LD_PRELOAD=$kept; else unset LD_PRELOAD; fi
-    { printf '%s\n' "$entry" >>"$LOCKDEP_RECORD/taken-over"; } 2>/dev/null
-    unset LOCKDEP_RECORD
+    [ -z "${LOCKDEP_RECORD-}" ] || { printf '%s\n' "$entry" >>"$LOCKDEP_RECORD/taken-over"; } 2>/dev/null
+    unset LOCKDEP_RECORD LOCKDEP_LIBRARIES
     exec "$entry" "$@"
 }
 

@@ -42,6 +42,8 @@ ADVICE: dict[str, str] = {
     "rust-programs": "build these with the crate lockdep_record and `--cfg lockdep`",
     "other-programs": ALONE + ", if there is a recorder for them",
     "sanitizer-programs": "record a build without the sanitizer",
+    "library-traces": "record a shorter run, or that library once more, with --recorder pthread",
+    "bound-libraries": "load them without RTLD_DEEPBIND, or record it once more, with --recorder pthread",
     "other-pthreads": "record it once more, with --recorder pthread",
     "parking-lot": "take these locks from the crate lockdep_record, or look at them by hand",
     "unread-files": "let the program write its traces as task-0001.csv and so on",

@@ -3,13 +3,14 @@ from __future__ import annotations
 
 import os
 
-from .processes import output_of
+from .processes import find_command, output_of
 from .saying import Refusal
 
 # What is built from what, below recorders/pthread, besides the script `build` and raw.h.
 SOURCES = {"preload.so": "preload", "provoke.so": "provoke", "library.so": "library", "finish": "finish", "run": "run.c", "look": "look.c", "names": "names"}
 WITHOUT_LIBDW = "no-libdw"  # is there if `names` was built without libdw
 LIBDW = ("/usr/include/elfutils/libdw.h", "/usr/local/include/elfutils/libdw.h")
+NO_COMPILER = 2  # the status if it is missing
 UNNAMEABLE = " :$"  # LD_PRELOAD takes these for separators, or for the beginning of something else
 
 
@@ -17,13 +18,17 @@ def is_preloadable(path: str) -> bool:
     return not any(letter in path for letter in UNNAMEABLE)
 
 
-def recorder_folder(home: str) -> str:
-    """The folder with what was built. It is built if it is missing or older than its sources."""
+def recorder_folder(home: str, needs_compiler: bool = True) -> str:
+    """The folder with what was built. It is built if it is missing or older than its sources. Who doesn't need it is refused without a word if there
+    is no compiler."""
     recorder = os.path.join(home, "recorders", "pthread")
     out = os.path.join(recorder, "out")
     is_installed = not os.path.exists(os.path.join(recorder, "raw.h"))
     if is_installed or (is_preloadable(recorder) and is_current(recorder, out)):
         return out
+    compiler = (os.environ.get("CC") or "cc").split()[0]
+    if not needs_compiler and find_command(compiler)[0] is None:
+        raise Refusal("", NO_COMPILER)
     status, output = output_of([os.path.join(recorder, "build"), "--print"])
     if status:
         raise Refusal("", status)

@@ -62,10 +62,11 @@ RUN = Command("run", "record a command, check its traces, and explain what was f
            listed([(each.name + " " + each.sees).strip() for each in RECORDERS.values()]) + " [default: "
            + "".join("%s if %s, " % (name, RECORDERS[name].when) for name in ORDER)
            + "otherwise %s]. Programs that ran and have other locks than it sees are named, and the run isn't called clean, unless this option names the recorder: then the rest is judged. Those of Python and Java "
-           "name what a recorded program starts itself; that of Rust names none" % PTHREAD.name,
+           "name what a recorded program starts itself, and record the locks of C libraries that it loads too unless this option names them; that of Rust "
+           "names none" % PTHREAD.name,
            "Programs that are named are those in Python, Java or Go, with locks of OpenMP, and with lockdep_record.h, below a command that `pthread` "
-           "records, and those with locks of pthreads that `embed` records. Only `pthread` sees locks that C modules of a Python program take. With "
-           "`python` the command may also be a script that isn't executable, and with `java` a class or the options of java; it also records a command "
+           "records, and those with locks of pthreads that `embed` records. Only `pthread` sees the interpreter's own locks, and those of C libraries in "
+           "the system's folders. With `python` the command may also be a script that isn't executable, and with `java` a class or the options of java; it also records a command "
            "that starts Java, such as a build."),
     Option("--frames", FRAMES, "by how many callers a lock class is named", "By how many callers a lock class is named, from 1 to 16 [default: 3]",
            "Only the recorder of pthreads has this option."),

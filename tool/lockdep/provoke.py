@@ -8,16 +8,19 @@ from .asking import ask_about
 from .findings import Finding, Kind
 from .folder import fault
 from .options import Words
+from .places import classes_in
 from .processes import find_command
 from .provoke_holders import HOLDERS, Holder
 from .provoke_plan import why_not_by_signal
 from .provoke_recorded import ENDING, recorded
+from .provoke_table import Modules
 from .provoke_tries import NOT_HAPPENED, NOTHING_TRIED, Tries, say
 from .recorders import RECORDERS, Recorder, recorder_for
 from .recording import summary_quietly
 from .summary import recorder_of
 from .saying import Refusal
 from .steps import THREAD
+from .words import class_of_lock, name_in, type_of_class
 
 LONGER = 10  # how many times as long as the recorded run another one may take
 LEAST_LIMIT = 30.0  # seconds
@@ -42,7 +45,7 @@ def provoke(home: str, line: Words) -> int:
         say("nothing was found, so there is nothing to provoke")
         is_lost = asked.left_out or summary_quietly(home, folder).status  # (what was left out may have a finding)
         return NOTHING_TRIED if is_lost else NOT_HAPPENED
-    findings = chosen(found, line)
+    findings = chosen(found, line, set() if holder.numbers is Modules else addressed(folder))
     if not findings:
         return NOTHING_TRIED
     heed_signals()
@@ -109,18 +112,30 @@ def holder_of(recorder: Recorder, home: str) -> Holder:
     return HOLDERS[recorder.holder](home)
 
 
-def chosen(findings: list[Finding], line: Words) -> list[tuple[int, Finding]]:
-    """The findings that are tried, with their numbers. Those that can't be are named."""
+def addressed(folder: str) -> set[str]:
+    """The classes of a recording whose places are addresses, and their types: in one of Python or Java those of C libraries."""
+    names = {made.name for made in classes_in(folder) or [] if made.place.offset is not None}
+    return names | {type_of_class(name) for name in names}
+
+
+def chosen(findings: list[Finding], line: Words, unheld: set[str]) -> list[tuple[int, Finding]]:
+    """The findings that are tried, with their numbers. Those that can't be are named, such as those of locks that aren't watched in a run."""
     wanted = [int(number) for number in line.values.get("--finding", [])]
     found = [(number, finding) for number, finding in enumerate(findings, 1) if not wanted or number in wanted]
     missing = [number for number in wanted if number not in dict(found)]
     if missing:
         raise Refusal("there is no finding %d: there are %d" % (missing[0], len(findings)))
-    reasons = {number: why_untried(finding) for number, finding in found}
+    reasons = {number: why_untried(finding) or why_unheld(finding, unheld) for number, finding in found}
     for number, reason in reasons.items():
         if reason:
             say("finding %d isn't tried: %s" % (number, reason))
     return [(number, finding) for number, finding in found if not reasons[number]]
+
+
+def why_unheld(finding: Finding, unheld: set[str]) -> str:
+    """Whether a finding is of locks by which this recorder holds nobody back."""
+    names = {class_of_lock(name_in(key)) for key in finding.keys}
+    return "its locks are those of a C library, for which there is `provoke --recorder pthread`" if names & unheld else ""
 
 
 def why_untried(finding: Finding) -> str:

@@ -79,6 +79,10 @@ def say_counts(folder: str, summary: Summary) -> None:
     say("%s, %s, %s, %s%s" % (counted(summary.number("processes"), "process", "processes"), counted(summary.number("threads"), "thread"),
                               counted(summary.operations(), "operation"), counted(summary.number("classes"), "class", "classes"),
                               "; left out: " + lost if lost else ""))
+    of_libraries = summary.number("library-threads")
+    if of_libraries:
+        say("%s took locks of C libraries, and %s for these" % (
+            counted(of_libraries, "thread"), "has a trace of its own" if of_libraries == 1 else "have traces of their own"))
     if lost:
         say("a clean report says nothing of what was left out; %s says more" % os.path.join(folder, "SUMMARY"))
 

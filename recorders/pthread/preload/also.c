@@ -84,7 +84,7 @@ static inline void found_done(uintptr_t control, struct call call) {
 #define ONCE(name, answer, type)                                                                                       \
     EXPORT answer name(type *control, void (*routine)(void)) {                                                         \
         begin_once();                                                                                                  \
-        if (!is_recording())                                                                                           \
+        if (!IS_WANTED((uintptr_t)control, HERE) || !is_recording())                                                   \
             return REAL(name)(control, routine);                                                                       \
         if (*(volatile int *)control & IS_DONE) {                                                                      \
             found_done((uintptr_t)control, HERE);                                                                      \
@@ -168,7 +168,7 @@ static void find_guards(void) {
 
 EXPORT int __cxa_guard_acquire(guard *g) {
     find_guards();
-    if (!is_recording())
+    if (!IS_WANTED((uintptr_t)g, HERE) || !is_recording())
         return real_acquire(g);
     if (LOAD(&g->bytes[0])) {
         found_done((uintptr_t)g, HERE);
@@ -205,28 +205,42 @@ static uint64_t loader;
 /* Whether something was loaded after the start. */
 static bool has_opened;
 
+/* A library that is bound to itself first calls the C library's own functions. That is taken away, unless this process is recorded for its libraries
+   alone: then nothing of the program is changed, and it is counted. */
+static int look_at_mode(int mode) {
+    if (!(mode & RTLD_DEEPBIND))
+        return mode;
+    if (is_for_libraries)
+        begin_with_library();
+    if (is_recording())
+        ADD(&arena->deep_bound, 1);
+    return is_for_libraries ? mode : mode & ~RTLD_DEEPBIND;
+}
+
 /* glibc looks where dlopen was called from, to know whose paths to search. So ours jumps to it, with nothing to be done afterwards:
    that it has returned is seen on the stack when the thread comes again. */
 EXPORT void *dlopen(const char *name, int mode) {
     begin_once();
+    mode = look_at_mode(mode);
+    forget_callers();
     if (is_recording()) {
         STORE(&has_opened, true);
-        if (mode & RTLD_DEEPBIND)
-            ADD(&arena->deep_bound, 1);
         enter_loader((uintptr_t)&loader, (uintptr_t)REAL(dlopen), HERE);
     }
-    return REAL(dlopen)(name, mode & ~RTLD_DEEPBIND);
+    return REAL(dlopen)(name, mode);
 }
 
 EXPORT void *dlmopen(Lmid_t space, const char *name, int mode) {
     begin_once();
+    if (space != LM_ID_BASE && is_for_libraries)
+        begin_with_library();
     if (is_recording()) {
         STORE(&has_opened, true);
         if (space != LM_ID_BASE)
             ADD(&arena->namespaces, 1);
         enter_loader((uintptr_t)&loader, (uintptr_t)REAL(dlmopen), HERE);
     }
-    return REAL(dlmopen)(space, name, mode & ~RTLD_DEEPBIND);
+    return REAL(dlmopen)(space, name, is_for_libraries ? mode : mode & ~RTLD_DEEPBIND);
 }
 
 /* What was loaded later is known by its locks, or else at the end: `record` says which files have other locks than those of pthreads. */
@@ -242,11 +256,15 @@ __attribute__((destructor)) static void at_end(void) {
 /* A library that goes takes its addresses with it. */
 EXPORT int dlclose(void *handle) {
     begin_once();
-    if (!is_recording())
-        return REAL(dlclose)(handle);
+    if (!is_recording()) {
+        int answer = REAL(dlclose)(handle);
+        forget_callers();
+        return answer;
+    }
     acquired((uintptr_t)&loader, MODE_WRITE, KIND_RECURSIVE, HERE);
     int answer = REAL(dlclose)(handle);
     releasing((uintptr_t)&loader, HERE);
+    forget_callers();
     if (begin_inside(HERE)) {
         int saved = errno;
         forget_closed_modules();
@@ -272,7 +290,7 @@ static bool asks_for(const char *what) {
     size_t length = strlen(what);
     for (const char *p = also; p; p = strchr(p, ',') ? strchr(p, ',') + 1 : NULL)
         if (strncmp(p, what, length) == 0 && (p[length] == ',' || !p[length]))
-            return is_recording();
+            return is_recording() && !is_for_libraries;
     return false;
 }
 

@@ -323,7 +323,7 @@ static bool is_place_of_lock(uintptr_t lock) { return lock && lock % LOCK_ALIGNM
 EXPORT void lockdep_annotate_v1(unsigned what, const volatile void *lock, unsigned long number, const char *text) {
     struct call call = HERE;
     begin_once();
-    if (!enter_recorder(call))
+    if (!IS_WANTED((uintptr_t)lock, call) || !enter_recorder(call))
         return;
     if (is_place_of_lock((uintptr_t)lock) || (lock && what == LOCKDEP_DESTROYED_))
         take_annotation(what, (uintptr_t)lock, number, text, call);

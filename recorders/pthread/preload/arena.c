@@ -289,6 +289,11 @@ static void set_rights(int file) {
     fchmod(file, RIGHTS);
 }
 
+static void leave_refusal(char *path) {
+    strcpy(strrchr(path, '.'), ".refused");
+    mknod(path, S_IFREG | 0644, 0); /* it needs no descriptor */
+}
+
 /* Makes the process's file. The name has the process's number, and how many programs that process has run before. Without memory of
    its own the library can't use it, and says so by the file that it leaves. */
 static struct raw_arena *make_file(const char *folder, uint32_t id, uint64_t allowed) {
@@ -308,14 +313,18 @@ static struct raw_arena *make_file(const char *folder, uint32_t id, uint64_t all
         if (!made)
             unlink(path);
     }
-    if (!made) {
-        strcpy(strrchr(path, '.'), ".refused");
-        mknod(path, S_IFREG | 0644, 0); /* it needs no descriptor */
-    }
+    if (!made)
+        leave_refusal(path);
     return made;
 }
 
 static uint32_t process_id(void) { return (uint32_t)SYSTEM(getpid); }
+
+void say_refused(void) {
+    char path[MOST_OF_FOLDER + 64];
+    put_file_name(path, folder_of_libraries, process_id(), 0);
+    leave_refusal(path);
+}
 
 static void note_process(uint32_t id, uint32_t parent) {
     STORE(&own_id, id);
@@ -363,8 +372,10 @@ void begin_in_fork(void) {
 }
 
 static void begin(void) {
-    const char *folder = variable("LOCKDEP_RECORD");
-    if (!folder || !folder[0] || length_of(folder) + 64 > 4096)
+    if (waits_for_library())
+        return;
+    const char *folder = is_for_libraries ? folder_of_libraries : variable("LOCKDEP_RECORD");
+    if (!folder || !folder[0] || length_of(folder) >= MOST_OF_FOLDER)
         return;
     populate(life_page(), USED_OF_VARIABLES, USED_OF_VARIABLES); /* before any of these is written to */
     nearby_used = (uint64_t)((char *)life_page() + PAGE - nearby);
@@ -383,6 +394,15 @@ static void begin(void) {
     begin_threads();
     begin_life();
     STORE(&made->magic, RAW_MAGIC);
+}
+
+/* The first call of a library for which alone this process is recorded. */
+void begin_for_library(void) {
+    int saved = errno;
+    begin_inside(HERE);
+    begin();
+    end_inside();
+    errno = saved;
 }
 
 /* It isn't 0, so that it lies in the page that the loader has written already: the others aren't there yet. */

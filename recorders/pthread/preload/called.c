@@ -89,10 +89,18 @@ static void take_name(pthread_t thread, const char *name) {
         copy_name(own_name, name);
 }
 
+/* What waits for a library knows how each thread calls itself meanwhile. */
+static void heed_name(pthread_t thread, const char *name) {
+    if (is_recording())
+        take_name(thread, name);
+    else if (is_for_libraries && thread == this_thread())
+        copy_name(own_name, name);
+}
+
 EXPORT int pthread_setname_np(pthread_t thread, const char *name) {
     int error = REAL(pthread_setname_np)(thread, name);
-    if (!error && is_recording())
-        take_name(thread, name);
+    if (!error)
+        heed_name(thread, name);
     return error;
 }
 
@@ -105,7 +113,7 @@ EXPORT int prctl(int option, ...) {
         words[i] = va_arg(rest, unsigned long);
     va_end(rest);
     int result = REAL(prctl)(option, words[0], words[1], words[2], words[3]);
-    if (option == PR_SET_NAME && result == 0 && is_recording())
-        take_name(this_thread(), (const char *)words[0]);
+    if (option == PR_SET_NAME && result == 0)
+        heed_name(this_thread(), (const char *)words[0]);
     return result;
 }

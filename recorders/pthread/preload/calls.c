@@ -281,6 +281,8 @@ WAITING(cnd_timedwait, is_time(until), (cnd_t *restrict condition, mtx_t *restri
 EXPORT int pthread_create(pthread_t *thread, const pthread_attr_t *how, void *(*run)(void *), void *with) {
     if (!resolved())
         return EAGAIN;
+    if (RARELY(is_for_libraries))
+        comes_from_library(HERE);
     uint32_t before = traces_so_far();
     note_handing_on();
     if (is_recording())

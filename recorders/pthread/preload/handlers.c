@@ -28,7 +28,7 @@ static int wanted;
 static bool is_wanted(void) {
     begin_once();
     if (RARELY(!LOAD(&wanted))) {
-        const char *how = variable("LOCKDEP_SIGNALS");
+        const char *how = is_for_libraries ? "off" : variable("LOCKDEP_SIGNALS");
         if (is_recording() && how && is_same_text(how, "all"))
             heed_allocator();
         STORE(&wanted, is_recording() && !(how && is_same_text(how, "off")) ? 2 : 1);

@@ -198,6 +198,8 @@ EXPORT int pthread_tryjoin_np(pthread_t thread, void **value) {
 
 /* (glibc starts and joins the threads of C11 without calling the functions of pthreads) */
 EXPORT int thrd_create(thrd_t *thread, thrd_start_t run, void *with) {
+    if (RARELY(is_for_libraries))
+        comes_from_library(HERE);
     uint32_t before = traces_so_far();
     note_handing_on();
     if (is_recording())

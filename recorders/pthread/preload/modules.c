@@ -183,8 +183,10 @@ static int note_told(struct dl_phdr_info *info, size_t size, void *unused) {
     return 0;
 }
 
-/* At the start: what is loaded then has its thread-local part at the same distance from the pointer of each thread. */
+/* At the start: what is loaded then has its thread-local part at the same distance from the pointer of each thread. What begins later doesn't know
+   which that was. */
 void note_modules(void) {
+    STORE(&is_started, is_started || is_for_libraries);
     dl_iterate_phdr(note_told, NULL);
     STORE(&is_started, true);
 }
@@ -250,6 +252,40 @@ static int is_told(struct dl_phdr_info *info, size_t size, void *module) {
 }
 
 static bool is_mapped(const struct module *m) { return dl_iterate_phdr(is_told, (void *)m) != 0; }
+
+#endif
+
+/* (nothing has to be recorded for that) */
+#ifdef HAS_FIND_OBJECT
+
+bool put_path_of(uintptr_t address, char *path) {
+    struct dl_find_object found;
+    if (find_object((void *)address, &found) != 0)
+        return false;
+    put_text(path, found.dlfo_link_map->l_name, RAW_PATH);
+    return true;
+}
+
+#else
+
+struct sought {
+    uintptr_t address;
+    char *path;
+};
+
+static int put_if_there(struct dl_phdr_info *info, size_t size, void *what) {
+    (void)size;
+    struct sought *sought = what;
+    struct module m = module_told(info);
+    bool is_there = sought->address >= m.from && sought->address < m.to;
+    if (is_there)
+        put_text(sought->path, info->dlpi_name, RAW_PATH);
+    return is_there;
+}
+
+bool put_path_of(uintptr_t address, char *path) {
+    return dl_iterate_phdr(put_if_there, &(struct sought){address, path}) != 0;
+}
 
 #endif
 

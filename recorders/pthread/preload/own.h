@@ -91,6 +91,8 @@ void begin_in_fork(void);
 enum begin_state { BEGIN_NOT = 1, BEGIN_UNDER_WAY, BEGIN_DONE };
 extern int begin_state;
 void begin_now(void);
+void begin_for_library(void);
+void say_refused(void); /* that this process isn't recorded */
 static inline void begin_once(void) {
     if (RARELY(LOAD(&begin_state) != BEGIN_DONE))
         begin_now();
@@ -175,6 +177,7 @@ uint64_t word_of(uintptr_t address);
 void forget_closed_modules(void);
 bool is_gone(uint32_t module);
 bool own_part_word(intptr_t from_pointer, uint64_t *word);
+bool put_path_of(uintptr_t address, char *path); /* of the module that has it, empty for the program itself; false: there is none */
 
 /* ---- stacks.c */
 
@@ -207,6 +210,21 @@ bool quick_callers(struct call call, uint64_t stack_bytes, uintptr_t *callers, u
 bool has_returned(struct call call, struct call earlier, uintptr_t function); /* which was called there, further up on the stack */
 bool is_left(struct call call, struct call earlier); /* a jump has left that call of a function of ours */
 bool has_word(uintptr_t address, uint32_t word);
+
+/* ---- libraries.c: with LOCKDEP_LIBRARIES, only the locks of C libraries that a program in Python or Java has loaded */
+
+#define MOST_OF_FOLDER 4032 /* bytes of its path, so that there is room for the name of a file */
+extern uint32_t is_for_libraries;
+extern char folder_of_libraries[MOST_OF_FOLDER];
+bool waits_for_library(void);
+bool comes_from_library(struct call call); /* the first such call begins the recording */
+bool begin_with_library(void);
+bool is_of_library(uintptr_t lock, struct call call); /* or the lock is a library's */
+bool is_release_of_library(uintptr_t lock, struct call call);
+void forget_callers(void);
+/* Whether the call is to be recorded, of that lock, or whatever lock it is about. */
+#define IS_WANTED(lock, call) (LIKELY(!is_for_libraries) || is_of_library(lock, call))
+#define IS_WANTED_CALL(call) (LIKELY(!is_for_libraries) || comes_from_library(call))
 
 /* ---- frames.c */
 

@@ -647,8 +647,14 @@ static bool release_own(struct thread *t, uintptr_t lock, struct call call) {
     return true;
 }
 
+/* Whether a release may be one of what was recorded: of a lock that this thread holds, or that such a library gives back. */
+static bool is_wanted_release(uintptr_t lock, struct call call) {
+    struct thread *t = self.thread;
+    return LIKELY(!is_for_libraries) || (t && (t->unnoted || find_held(t, lock) != RAW_HELD)) || is_release_of_library(lock, call);
+}
+
 void releasing(uintptr_t lock, struct call call) {
-    struct thread *t = enter(call);
+    struct thread *t = is_wanted_release(lock, call) ? enter(call) : NULL;
     if (!t)
         return;
     if (!release_own(t, lock, call)) {
@@ -661,7 +667,7 @@ void releasing(uintptr_t lock, struct call call) {
 /* The same of a lock that only the thread that took it can release. False if this thread wasn't seen to take it: nothing is recorded of
    the call then, since it may well fail. If it doesn't, released_unseen is to follow. */
 bool releasing_own(uintptr_t lock, struct call call) {
-    struct thread *t = enter(call);
+    struct thread *t = is_wanted_release(lock, call) ? enter(call) : NULL;
     if (!t)
         return true;
     bool is_seen = release_own(t, lock, call);
@@ -671,7 +677,7 @@ bool releasing_own(uintptr_t lock, struct call call) {
 
 /* A lock was released that this thread took, and wasn't seen to take; or a handler has released what the code has that it interrupted. */
 void released_unseen(uintptr_t lock, struct call call) {
-    struct thread *t = enter(call);
+    struct thread *t = is_wanted_release(lock, call) ? enter(call) : NULL;
     if (!t)
         return;
     t->raw->calls++;
@@ -974,7 +980,7 @@ void acquired(uintptr_t lock, uint8_t mode, enum kind kind, struct call call) {
 }
 
 __attribute__((noinline)) void acquired_anew(uintptr_t lock, uint8_t mode, enum kind kind, struct call call) {
-    struct thread *t = enter(call);
+    struct thread *t = IS_WANTED(lock, call) ? enter(call) : NULL;
     if (!t)
         return;
     take_lock(t, lock, mode, kind, call);
@@ -1012,7 +1018,7 @@ static void push_wish(struct thread *t, uintptr_t lock, uint32_t object, uint8_t
 
 /* Whether the wish was recorded; end_wish is to follow then. */
 bool begin_wish(uintptr_t lock, uint8_t mode, enum kind kind, struct call call) {
-    struct thread *t = enter(call);
+    struct thread *t = IS_WANTED(lock, call) ? enter(call) : NULL;
     if (!t)
         return false;
     settle_to_take(t, call);
@@ -1249,7 +1255,7 @@ void end_run(struct thread *t, struct call call) {
 /* A lock was tried. One that is tried again and again, with others held all the time, is waited for in another way. Who gives those
    back before the next try doesn't wait with them held. */
 void tried(uintptr_t lock, bool has_failed, struct call call) {
-    struct thread *t = has_failed || (self.thread && self.thread->failed) ? enter(call) : NULL;
+    struct thread *t = (has_failed || (self.thread && self.thread->failed)) && IS_WANTED(lock, call) ? enter(call) : NULL;
     if (!t)
         return;
     if (t->failed == lock && t->failed_under && !is_ignored(lock))
@@ -1263,7 +1269,7 @@ void tried(uintptr_t lock, bool has_failed, struct call call) {
 
 /* A library's constructor or destructor may load another one: the lock is held until the first call that has taken it returns. */
 void enter_loader(uintptr_t loader, uintptr_t function, struct call call) {
-    struct thread *t = enter(call);
+    struct thread *t = IS_WANTED_CALL(call) ? enter(call) : NULL;
     if (!t)
         return;
     settle(t, call);
@@ -1322,7 +1328,7 @@ static void end_holds_between(struct thread *t, uintptr_t from, uintptr_t to, ui
 void end_own_holds(uintptr_t from, uintptr_t to, struct call call) { end_holds_between(self.thread, from, to, call.caller); }
 
 void initialised(uintptr_t lock, struct call call) {
-    struct thread *t = enter(call);
+    struct thread *t = IS_WANTED(lock, call) ? enter(call) : NULL;
     if (!t)
         return;
     end_holds_between(t, lock, lock + 1, call.caller);
@@ -1334,7 +1340,7 @@ void initialised(uintptr_t lock, struct call call) {
 }
 
 void destroyed(uintptr_t lock, struct call call) {
-    struct thread *t = enter(call);
+    struct thread *t = IS_WANTED(lock, call) ? enter(call) : NULL;
     if (!t)
         return;
     end_holds_between(t, lock, lock + 1, call.caller);

@@ -159,6 +159,7 @@ def command_end(status):
 def record(folder, command, environment, then, is_chosen):
     """Records a command in an environment. Returns its status, or becomes what runs after it."""
     folder.begin(is_chosen)
+    environment = folder.watched(command, environment, is_chosen)
     block_signals()
     witness = Witness()
     child = start(command, environment)

@@ -7,6 +7,7 @@ import sys
 HOME = os.path.dirname(os.path.dirname(os.path.dirname(os.path.dirname(os.path.realpath(__file__)))))
 sys.path.insert(0, os.path.join(HOME, "tool"))
 from lockdep import finishing, folder as driver, joins, losses, seen, summary  # noqa: E402, F401
+from lockdep.recording import STAGE  # noqa: E402
 from lockdep.saying import RUN, Refusal, say_refusal, typed  # noqa: E402, F401
 sys.path.pop(0)
 
@@ -25,6 +26,11 @@ class Folder(driver.Folder):
         self.prepare()
         self.put(self.recorder, "" if is_chosen else GUESSED)
 
+    def watched(self, command, environment, is_chosen):
+        """The environment of a command. Unless the user chose this recorder, the locks of C libraries are looked at too."""
+        from lockdep import libraries
+        return libraries.without(environment) if is_chosen else libraries.watched(HOME, self, command, environment)
+
     def finish(self):
         """Makes the traces. If they can't be written, the recording stays, and they can be made later."""
         if not os.path.isfile(self.own_mark):
@@ -37,12 +43,16 @@ class Folder(driver.Folder):
             raise Refusal("%s; when there is some, `lockdep record --finish %s` makes the traces" % (fault, typed(self.path))
                           if error.errno in (errno.ENOSPC, errno.EDQUOT) else fault)
         shutil.rmtree(self.raw)
+        shutil.rmtree(os.path.join(self.path, STAGE), ignore_errors=True)
 
     def make_traces(self):
+        from lockdep import libraries
         from lockdep_record import finish
         with open(self.own_mark, encoding="utf-8") as file:
             is_chosen = file.read() != GUESSED
-        summary.write(self.path, finish.write_traces(self.raw, self.path, self.recorder, is_chosen), self.recorder)
+        made = finish.write_traces(self.raw, self.path, self.recorder, is_chosen)
+        libraries.add_traces(HOME, self.path, self.raw, made)
+        summary.write(self.path, made, self.recorder)
         self.list_made()
 
     def drop_traces(self):

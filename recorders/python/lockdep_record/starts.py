@@ -20,9 +20,11 @@ NO_PROGRAM = frozenset(("-V", "-VV", "--version", "-h", "-?", "--help", "--help-
 NO_JAVA = frozenset(("-version", "--version", "-help", "--help", "-h", "-?"))
 MARKS = ((b"\xff Go buildinf:", "go"), (b"lockdep_record for LOCKDEP_TRACES", "rust"), (b"ldr1 lockdep,2", "embed"))  # in a program's file
 OTHERS = (JAVA,) + tuple(kind for _, kind in MARKS)
+PRELOADED = "/out/preload.so"  # ends the path of the recorder of pthreads
 STOPS = frozenset(("if", "while", "until", "for", "case", "{", "function", "[[", "!"))
 HOOK = os.path.join(recording.own_folder, "hook")
 known = {}
+are_watched = False  # the locks of libraries, by the recorder of pthreads
 tell = recording.put
 
 
@@ -203,14 +205,22 @@ def libraries():
             path = line.rstrip("\n").partition("/")
             path = path[1] + path[2]
             name = os.path.basename(path)
-            if ".so" in name and not path.startswith(SYSTEM + (of_python,)) and not name.startswith("libpython"):
+            if ".so" in name and not path.startswith(SYSTEM + (of_python,)) and not name.startswith("libpython") and not path.endswith(PRELOADED):
                 found[path] = True
     return list(found)
 
 
 def library_lines():
-    """A line for each library, of which `finish` looks whether it calls locks of pthreads."""
-    return "".join("D %s\n" % recording.visible(path) for path in libraries())
+    """A line for each library, of which `finish` looks whether it calls locks of pthreads. There is none if those locks are recorded."""
+    return "" if are_watched else "".join("D %s\n" % recording.visible(path) for path in libraries())
+
+
+def find_watched():
+    """Whether the locks of libraries are recorded in this process, by the rule of recorders/pthread/preload/libraries.c."""
+    if not os.environ.get("LOCKDEP_LIBRARIES") or not is_python_name(os.readlink("/proc/self/exe")):
+        return False
+    with open("/proc/self/maps", "rb") as file:
+        return os.fsencode(PRELOADED + "\n") in file.read()
 
 
 def calls_pthreads(path):
@@ -225,7 +235,9 @@ def calls_pthreads(path):
 
 def begin():
     """Notes from here on what this process starts."""
+    global are_watched
     note_itself()
+    are_watched = find_watched()
     recording.at_end.append(library_lines)
 
     def hears(event, words, noted=NOTED, note_event=note_event):

@@ -1,5 +1,6 @@
 package java.lockdep;
 
+import java.io.File;
 import java.io.FileInputStream;
 import java.io.IOException;
 import java.nio.charset.StandardCharsets;
@@ -10,21 +11,32 @@ import java.util.Set;
 final class Libraries {
     private static final String[] SYSTEM = {"/lib", "/usr/lib"};
 
+    private static final String PRELOADED = "/out/preload.so"; // ends the path of the recorder of pthreads
+
     private Libraries() {
     }
 
-    /** Adds a line for each library that is neither the system's nor the JVM's own. */
+    /** Adds a line for each library that is neither the system's nor the JVM's own, unless their locks are recorded. */
     static void add(StringBuilder lines) {
         try (FileInputStream file = new FileInputStream("/proc/self/maps")) {
             Set<String> found = new LinkedHashSet<>();
+            boolean isPreloaded = false;
             for (String line : new String(file.readAllBytes(), StandardCharsets.UTF_8).split("\n")) {
                 int at = line.indexOf('/');
+                isPreloaded |= line.endsWith(PRELOADED);
                 if (at >= 0 && isOfProgram(line.substring(at))) found.add(line.substring(at));
             }
+            if (isPreloaded && areWatched()) return;
             for (String path : found) lines.append("D ").append(path).append('\n');
         } catch (IOException | RuntimeException unknown) {
             // Without /proc nothing is known of them.
         }
+    }
+
+    /** Whether the recorder of pthreads, if it is preloaded, looks at libraries: by the rule of recorders/pthread/preload/libraries.c. */
+    private static boolean areWatched() throws IOException {
+        String folder = System.getenv("LOCKDEP_LIBRARIES");
+        return folder != null && !folder.isEmpty() && new File("/proc/self/exe").getCanonicalFile().getName().equals("java");
     }
 
     private static boolean isOfProgram(String path) {
@@ -32,6 +44,6 @@ final class Libraries {
             if (path.startsWith(folder)) return false;
         }
         String own = System.getProperty("java.home");
-        return path.substring(path.lastIndexOf('/')).contains(".so") && (own == null || !path.startsWith(own));
+        return path.substring(path.lastIndexOf('/')).contains(".so") && !path.endsWith(PRELOADED) && (own == null || !path.startsWith(own));
     }
 }
