@@ -33,6 +33,7 @@ ADVICE: dict[str, str] = {
     "synchronizers": "look at these by hand, or use a Lock of java.util.concurrent.locks",
     "multiprocessing": "look at these by hand: no recorder sees them",
     "unguarded": "give this Python its lock, by PYTHON_GIL=1 in the environment",
+    "changed-root": "record a run without that",
     "gevent": "record a run with threads in place of greenlets, or look at its other locks by hand",
     "eventlet": "record a run with threads in place of greenlets, or look at its other locks by hand",
     "library-only": "record a run in which the program takes locks of its own",

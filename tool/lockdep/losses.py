@@ -143,6 +143,7 @@ COUNTS: dict[str, tuple[str, ...]] = {  # several sentences if recorders count d
     "synchronizers": ("classes of the program's on AbstractQueuedSynchronizer, and not of a Lock: who waits for their objects wasn't looked at",),
     "multiprocessing": ("locks of multiprocessing: these weren't looked at, so an order among them, or of them with others, is missing",),
     "unguarded": ("processes of a Python without its global lock, for which this recorder isn't made: what it recorded may be wrong",),
+    "changed-root": ("processes that changed their root, by chroot: what they did after that isn't recorded",),
     "gevent": ("processes with gevent: only those of its locks that take the place of threading's were looked at",),
     "eventlet": ("processes with eventlet: only those of its locks that take the place of threading's were looked at",),
     "library-only": ("classes of the standard library alone: it makes and takes these locks for itself",),

@@ -646,6 +646,22 @@ def replace_exit():
     os._exit = _exit
 
 
+def replace_chroot():
+    """A process with another root can't find its file, nor those of the recorder: that is noted before."""
+    real_chroot = os.chroot
+
+    def chroot(path):
+        recording.note_count("changed-root", 1)
+        try:
+            real_chroot(path)
+        except BaseException as error:
+            recording.note_count("changed-root", -1)
+            hide(error)
+            raise
+    chroot.__doc__ = real_chroot.__doc__
+    os.chroot = chroot
+
+
 def hide(error):
     """Takes the recorder's functions out of the trace of an error, and of those that led to it. What comes in between, as another
     Ctrl-C, isn't an error of the program's hook."""
@@ -700,6 +716,7 @@ def begin(folder, is_fork_server):
     if os.environ.get("LOCKDEP_SIGNALS") != "off":
         handlers.begin()
     replace_exit()
+    replace_chroot()
     sys.meta_path.insert(0, Finder)
     Finder.awaited.update(green.AWAITED)
     starts.begin()

@@ -975,7 +975,7 @@ class Process:
         self.folder, self.tasks, self.common = folder, set(), Way(None)
         self.counts = dict.fromkeys(("reentered", "beyond-held", "full-traces", "unseen-releases", "repeats", "retried-tries",
                                      "interrupted", "alike", "operations", "multiprocessing", "gevent", "eventlet", "unfollowed-handlers",
-                                     "unguarded"), 0)
+                                     "unguarded", "changed-root"), 0)
         self.note_unguarded()
         self.told, self.written, self.like, self.task_numbers = {}, {}, {}, counting(1)
         self.places, self.place_numbers, self.pid = {}, counting(1), os.getpid()
@@ -1104,6 +1104,13 @@ def count_lines():
             process.written[name] = number
             lines.append("S %s %d\n" % (name, number))
     return "".join(lines)
+
+
+def note_count(name, more):
+    """Changes a count of the process, and writes it at once."""
+    if process is not None:
+        process.counts[name] += more
+        put(count_lines())
 
 
 def count(task):
