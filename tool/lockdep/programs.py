@@ -15,7 +15,8 @@ MOST_BYTES = 100000  # of the words of one command
 HEAD = 65536  # bytes at the beginning of a program, in which the name of its loader is
 RUST_TOOLS = frozenset("cargo rustc rustdoc rustup rustfmt clippy-driver sccache coreutils".split())  # (some systems have coreutils in Rust)
 
-SYSTEM = ("/bin/", "/sbin/", "/lib", "/usr/bin/", "/usr/sbin/", "/usr/lib", "/usr/libexec/")  # whose programs aren't a program's own
+SYSTEM = ("/bin/", "/sbin/", "/lib/", "/lib32/", "/lib64/", "/libx32/", "/usr/bin/", "/usr/sbin/", "/usr/lib/", "/usr/lib32/", "/usr/lib64/", "/usr/libx32/",
+          "/usr/libexec/")  # whose programs aren't a program's own
 COMMON = ("pthread", "semaphore", "futex")  # kinds of locks that a program of any language may have
 OF_LIBRARIES = ("openmp", "glib")  # kinds of locks that are a library's own, whichever program loads it
 

@@ -75,14 +75,41 @@ static bool is_of_machine(const char *path) {
     return true;
 }
 
-static bool is_of_program(const char *path) {
-    static const char *const system[] = {"/lib", "/usr/lib", "/bin/", "/sbin/", "/usr/bin/", "/usr/sbin/"};
+static bool is_of_system(const char *path) {
+    static const char *const folders[] = {"/lib/", "/lib32/", "/lib64/", "/libx32/", "/usr/lib/", "/usr/lib32/", "/usr/lib64/", "/usr/libx32/",
+                                          "/usr/libexec/", "/bin/", "/sbin/", "/usr/bin/", "/usr/sbin/"};
+    for (size_t i = 0; i < sizeof folders / sizeof *folders; i++)
+        if (begins_with(path, folders[i]))
+            return true;
+    return false;
+}
+
+static const char *after_version(const char *text) {
+    while (*text == '.' || (*text >= '0' && *text <= '9'))
+        text++;
+    return *text == 't' ? text + 1 : text; /* as python3.13t */
+}
+
+/* A library as libpython3.11.so, or a module in a folder as python3.11/lib-dynload. */
+static bool is_of_interpreter(const char *path) {
     const char *name = name_in(path);
-    for (size_t i = 0; i < sizeof system / sizeof *system; i++)
-        if (begins_with(path, system[i]))
-            return false;
-    bool is_interpreters = begins_with(name, "libpython") || begins_with(name, "libpypy") || has_text(path, "/lib-dynload/");
-    return has_text(name, ".so") && !is_interpreters && !has_text(path, "/out/preload.so") && !is_of_machine(path);
+    if (begins_with(name, "libpython"))
+        return name[9] >= '0' && name[9] <= '9';
+    if (begins_with(name, "libpypy"))
+        return name[7] == '-' || (name[7] >= '0' && name[7] <= '9');
+    for (const char *at = path; *at; at++)
+        if ((begins_with(at, "/python") && begins_with(after_version(at + 7), "/lib-dynload/")) ||
+            (begins_with(at, "/pypy") && begins_with(after_version(at + 5), "/lib-dynload/")))
+            return true;
+    return false;
+}
+
+/* Of what is loaded, the program itself has no path. */
+static bool is_of_program(const char *path) {
+    static char own[RAW_PATH + 1];
+    if (!own[0])
+        put_path_of((uintptr_t)waits_for_library, own);
+    return name_in(path) != path && !is_of_system(path) && !is_of_interpreter(path) && !is_same_text(path, own) && !is_of_machine(path);
 }
 
 /* Whose a place in memory is. Code of nobody's is what a virtual machine has compiled, and libffi calls for others: neither takes locks for itself,

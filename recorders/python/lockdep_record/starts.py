@@ -4,6 +4,7 @@ plain. What other programs start isn't known here.
 
 `finish` knows whether a Python that was started is among those that were recorded: by the words that both have."""
 import os
+import re
 import sys
 
 from . import recording
@@ -12,7 +13,9 @@ NOTED = frozenset(("subprocess.Popen", "os.exec", "os.posix_spawn", "os.system")
 PYTHON, PTHREAD, JAVA = "python", "pthread", "java"
 MOST_WORDS, LONGEST_WORD = 32, 200  # of a command, how many of the last are noted, and how much of each
 MOST_READ = 8000000  # of a program's file: the names of what it calls lie near its beginning
-SYSTEM = ("/bin/", "/sbin/", "/lib", "/usr/bin/", "/usr/sbin/", "/usr/lib", "/usr/libexec/")
+SYSTEM = ("/bin/", "/sbin/", "/lib/", "/lib32/", "/lib64/", "/libx32/", "/usr/bin/", "/usr/sbin/", "/usr/lib/", "/usr/lib32/", "/usr/lib64/", "/usr/libx32/",
+          "/usr/libexec/")
+INTERPRETERS = re.compile(r".*/(?:libpython[0-9]|libpypy[-0-9])[^/]*|.*/(?:python|pypy)[0-9.]*t?/lib-dynload/.*")  # its own libraries and modules
 CALLS = tuple(b"\0pthread_%s\0" % name for name in (b"mutex_lock", b"mutex_trylock", b"rwlock_rdlock", b"rwlock_wrlock", b"spin_lock"))
 SHELLS = frozenset(("sh", "bash", "dash", "ksh", "zsh"))
 PASSES_ON = frozenset(("env", "exec", "nice", "nohup", "setsid", "stdbuf", "time", "timeout"))  # what starts the program that it names
@@ -198,14 +201,13 @@ def is_of_popen(frame):
 
 def libraries():
     """The libraries that are loaded now, but for those of the system's folders and of the interpreter itself."""
-    of_python = os.path.join(os.path.dirname(os.path.realpath(os.__file__)), "lib-dynload") + os.sep
+    own = os.path.realpath("/proc/self/exe")
     found = {}
     with open("/proc/self/maps", encoding="utf-8", errors="surrogateescape") as file:
         for line in file:
-            path = line.rstrip("\n").partition("/")
-            path = path[1] + path[2]
-            name = os.path.basename(path)
-            if ".so" in name and not path.startswith(SYSTEM + (of_python,)) and not name.startswith("libpython") and not path.endswith(PRELOADED):
+            words = line.rstrip("\n").split(None, 5)
+            path = words[5] if len(words) > 5 and "x" in words[1] else ""
+            if path.startswith("/") and not path.startswith(SYSTEM) and path != own and not INTERPRETERS.fullmatch(path) and not path.endswith(PRELOADED):
                 found[path] = True
     return list(found)
 

@@ -9,7 +9,7 @@ import java.util.Set;
 
 /** The libraries that the program has loaded, of which the end of the recording looks whether they call locks of pthreads. */
 final class Libraries {
-    private static final String[] SYSTEM = {"/lib", "/usr/lib"};
+    private static final String[] SYSTEM = {"/lib/", "/lib32/", "/lib64/", "/libx32/", "/usr/lib/", "/usr/lib32/", "/usr/lib64/", "/usr/libx32/"};
 
     private static final String PRELOADED = "/out/preload.so"; // ends the path of the recorder of pthreads
 
@@ -24,7 +24,8 @@ final class Libraries {
             for (String line : new String(file.readAllBytes(), StandardCharsets.UTF_8).split("\n")) {
                 int at = line.indexOf('/');
                 isPreloaded |= line.endsWith(PRELOADED);
-                if (at >= 0 && isOfProgram(line.substring(at))) found.add(line.substring(at));
+                boolean isCode = line.indexOf('x', line.indexOf(' ') + 1) == line.indexOf(' ') + 3;
+                if (at >= 0 && isCode && isOfProgram(line.substring(at))) found.add(line.substring(at));
             }
             if (isPreloaded && areWatched()) return;
             for (String path : found) lines.append("D ").append(path).append('\n');
@@ -44,6 +45,6 @@ final class Libraries {
             if (path.startsWith(folder)) return false;
         }
         String own = System.getProperty("java.home");
-        return path.substring(path.lastIndexOf('/')).contains(".so") && !path.endsWith(PRELOADED) && (own == null || !path.startsWith(own));
+        return !path.endsWith(PRELOADED) && (own == null || !path.startsWith(own));
     }
 }
