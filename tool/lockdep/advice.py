@@ -41,6 +41,7 @@ ADVICE: dict[str, str] = {
     "pthread-runs": ALONE + ", with --recorder pthread",
     "other-runs": ALONE,
     "rust-programs": "build these with the crate lockdep_record and `--cfg lockdep`",
+    "other-libraries": "look at these by hand, or record what takes their locks by itself",
     "other-programs": ALONE + ", if there is a recorder for them",
     "sanitizer-programs": "record a build without the sanitizer",
     "library-traces": "record a shorter run, or that library once more, with --recorder pthread",

@@ -11,8 +11,9 @@ from .finishing import MOST_KEYS, MOST_TRACES, trace_name
 from .folder import LIVES, OBJECTS, TASKS, WEAK, Folder, remove_tree
 from .processes import find_command, output_of, run
 from .recording import STAGE, is_of_musl, with_asan_after
+from .programs import Files
 from .saying import Refusal
-from .summary import Count, Summary, put, read
+from .summary import Count, File, Summary, put, read
 
 VARIABLE = "LOCKDEP_LIBRARIES"  # names the folder that the preloaded recorder writes to
 INSIDE = "libraries"  # in the recording: a folder with a recording of its own
@@ -21,6 +22,7 @@ RIGHTS = 0o1777  # a program may give up its rights before it loads a library
 TASK = re.compile(r"\btask-([0-9]{4,})\b")
 BESIDE = (TASKS, LIVES, WEAK, "breaches")  # files whose lines name traces
 OF_THREADS = "library-threads"
+OTHER_LOCKS = ("openmp", "go")  # kinds of locks of libraries that aren't recorded
 RENAMED = {"threads": OF_THREADS, "deep-binding": "bound-libraries"}  # codes that mean something else here
 APART = ("processes", "at-exit")  # are no sums: the first is counted by the program's own recorder
 
@@ -75,6 +77,18 @@ def preload(home: str, folder: Folder) -> str | None:
 
 
 # ---- The end.
+
+def note_others(home: str, summary: Summary, paths: list[str], is_passed: bool) -> None:
+    """Counts the libraries with locks that no recorder of this run sees. They count as left out unless the recorder was named."""
+    if not paths:
+        return
+    try:
+        look = os.path.join(recorder_folder(home, needs_compiler=False), "look")
+    except Refusal:
+        return
+    found = [File(path, None, kind) for kind, path in Files(look, paths).kinds(paths) if kind in OTHER_LOCKS]
+    summary.add("passed-libraries" if is_passed else "other-libraries", found)
+
 
 def add_traces(home: str, path: str, raw: str, summary: Summary) -> None:
     """Adds the traces of what was recorded of libraries to those that a folder has, and its counts to a summary. Of a program that wasn't recorded

@@ -154,8 +154,9 @@ COUNTS: dict[str, tuple[str, ...]] = {  # several sentences if recorders count d
     "other-programs": ("programs with locks that are not those of pthreads",),
     "sanitizer-programs": ("programs built with a sanitizer, in which orders may be missed or wrong",),
     "other-pthreads": ("files with locks of pthreads, which were not looked at",),
+    "other-libraries": ("libraries with locks that are not those of pthreads, which were not looked at",),
     "library-traces": ("recordings of locks of C libraries that have no traces here, as where there are too many: these weren't looked at",),
-    "bound-libraries": ("libraries that ask to be bound to themselves first, by RTLD_DEEPBIND: their locks aren't seen",),
+    "bound-libraries": ("libraries bound to themselves first, by RTLD_DEEPBIND: their locks aren't seen",),
     "parking-lot": ("programs with locks of the crate parking_lot, which were not looked at",),
     "unread-files": ("files beside the traces that were not read",),
     "beyond-events": ("calls after 1,000,000 events of a task",),
@@ -195,6 +196,7 @@ NOTES: dict[str, tuple[str, ...]] = {
     "library-threads": ("threads that took locks of C libraries: they have traces of their own for these",),
     "passed-programs": ("programs with locks that are not those of pthreads",),
     "passed-parking-lot": ("programs with locks of the crate parking_lot, which were not looked at",),
+    "passed-libraries": ("libraries with locks that are not those of pthreads, which were not looked at",),
     "passed-pthreads": ("files with locks of pthreads, which were not looked at",),
 }
 RECORDED = ("processes", "threads", "operations", "events", "classes")

@@ -4,7 +4,7 @@ import re
 from binascii import crc32
 
 from . import sets, starts
-from .folder import finishing, joins as joining, losses
+from .folder import HOME, finishing, joins as joining, losses
 from .folder import summary as summaries
 
 MOST_ALIKE = 2
@@ -110,8 +110,8 @@ class Process:
         elif kind == "P":
             number, _, text = rest.partition("\t")
             self.places[int(number)] = text
-        elif kind == "D":
-            self.libraries.append(rest)
+        elif kind in "DV":
+            self.libraries.append((rest, kind == "V"))
         elif kind == "N":
             number, _, name = rest.partition("\t")
             self.task(int(number)).name = name
@@ -401,6 +401,7 @@ def write_all(folder, names, processes, tally):
 def write_traces(raw, folder, recorder, is_chosen):
     """Writes the traces of a recording and its classes. Both recorders that use this write such files. The result is what was counted. Programs with
     locks of other kinds count as left out unless the user chose this recorder."""
+    from lockdep.libraries import note_others
     names, processes = read_all(raw)
     tally = finishing.Tally(recorder)
     for process in processes:
@@ -414,8 +415,10 @@ def write_traces(raw, folder, recorder, is_chosen):
     counts += count_of("pthread-runs", [start for start in started if start.kind == starts.PTHREAD], not is_chosen, {})
     counts += count_of("other-runs", [start for start in started if start.kind in OTHERS], not is_chosen)
     summary = summaries.Summary(counts + tally.counts(finishing.LOSSES) + of_signals)
-    libraries = dict.fromkeys(path for process in processes for path in process.libraries)
-    summary.add("passed-pthreads" if is_chosen else "other-pthreads", [summaries.File(path) for path in libraries if starts.calls_pthreads(path)])
+    libraries = dict.fromkeys(library for process in processes for library in process.libraries)
+    found = [summaries.File(path) for path, is_watched in libraries if not is_watched and starts.calls_pthreads(path)]
+    summary.add("passed-pthreads" if is_chosen else "other-pthreads", found)
+    note_others(HOME, summary, list(dict.fromkeys(path for path, _ in libraries)), is_chosen)
     return summary
 
 

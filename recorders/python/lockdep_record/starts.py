@@ -213,8 +213,8 @@ def libraries():
 
 
 def library_lines():
-    """A line for each library, of which `finish` looks whether it calls locks of pthreads. There is none if those locks are recorded."""
-    return "" if are_watched else "".join("D %s\n" % recording.visible(path) for path in libraries())
+    """A line for each library, of which `finish` looks whether it has locks: V if those of pthreads are recorded, else D."""
+    return "".join("%s %s\n" % ("V" if are_watched else "D", recording.visible(path)) for path in libraries())
 
 
 def find_watched():

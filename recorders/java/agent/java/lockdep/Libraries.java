@@ -7,7 +7,7 @@ import java.nio.charset.StandardCharsets;
 import java.util.LinkedHashSet;
 import java.util.Set;
 
-/** The libraries that the program has loaded, of which the end of the recording looks whether they call locks of pthreads. */
+/** The libraries that the program has loaded, of which the end of the recording looks whether they have locks. */
 final class Libraries {
     private static final String[] SYSTEM = {"/lib/", "/lib32/", "/lib64/", "/libx32/", "/usr/lib/", "/usr/lib32/", "/usr/lib64/", "/usr/libx32/"};
 
@@ -16,7 +16,7 @@ final class Libraries {
     private Libraries() {
     }
 
-    /** Adds a line for each library that is neither the system's nor the JVM's own, unless their locks are recorded. */
+    /** Adds a line for each library that is neither the system's nor the JVM's own: V if their locks of pthreads are recorded, else D. */
     static void add(StringBuilder lines) {
         try (FileInputStream file = new FileInputStream("/proc/self/maps")) {
             Set<String> found = new LinkedHashSet<>();
@@ -27,8 +27,8 @@ final class Libraries {
                 boolean isCode = line.indexOf('x', line.indexOf(' ') + 1) == line.indexOf(' ') + 3;
                 if (at >= 0 && isCode && isOfProgram(line.substring(at))) found.add(line.substring(at));
             }
-            if (isPreloaded && areWatched()) return;
-            for (String path : found) lines.append("D ").append(path).append('\n');
+            String kind = isPreloaded && areWatched() ? "V " : "D ";
+            for (String path : found) lines.append(kind).append(path).append('\n');
         } catch (IOException | RuntimeException unknown) {
             // Without /proc nothing is known of them.
         }
