@@ -239,8 +239,9 @@ static bool is_runtime(const struct runtime *runtime, const struct file *file, c
 
 /* ---- Waiting by futexes, which is done in the program's own code. */
 
-/* Parts of the names of what std::atomic waits by, and so std::counting_semaphore, in the libraries of gcc and clang. */
-static const char *const names_of_atomic_waits[] = {"__platform_wait", "__atomic_wait_address", "__waiter_pool", "__wait_impl",
+/* Parts of the names of what std::atomic waits by, and so std::counting_semaphore, in the libraries of gcc and clang, as linkers have them: every
+   program has the constant __platform_wait_alignment that includes <thread>. */
+static const char *const names_of_atomic_waits[] = {"15__platform_wait", "21__platform_wait_until", "__atomic_wait_address", "__waiter_pool", "__wait_impl",
                                                     "__libcpp_atomic_wait"};
 static const char *const starts_of_system_calls[MOST_STARTS] = {"syscall"};
 

@@ -42,7 +42,7 @@ REASONS: dict[str, str] = {
     "futex": "it waits by futexes itself, as std::counting_semaphore and std::atomic do, and takes no pthread lock: no recorder sees that",
     "sanitizer": "it is built with a sanitizer, which hides the memory of C++ objects: a lock in one is known by where it is first taken, so "
                  "orders may be missed or wrong; record a build without it",
-    "python-nothing": "it took no lock of threading or asyncio; those of C modules are seen by `--recorder pthread`",
+    "python-nothing": "it took no lock of threading or asyncio; the interpreter's own are seen by `--recorder pthread`",
     "python-off": "no Python was started, or one without its environment, as by -I, -E, -S or env -i",
     "java-nothing": "its own classes took no monitor and no lock of java.util.concurrent.locks; those of the JDK are seen if LOCKDEP_JAVA_JDK "
                     "names them ({README:java})",
