@@ -1,5 +1,5 @@
 // Programs that hang: two threads with two locks, a thread with its own lock, a reader behind a writer that waits for it, and joins of a
-// thread with the lock held that it waits for, by a handle and by the end of a scope. A thread that goes on says when the others wait.
+// thread with the lock held that it waits for, by a handle, also in a destructor, and by the end of a scope. One that goes on says so.
 use lockdep_record::{thread, Arc, Barrier, Mutex, RwLock};
 use std::fs::{read_dir, read_link, read_to_string};
 use std::{thread::sleep, thread::spawn, thread::Builder, time::Duration};
@@ -60,6 +60,15 @@ fn main() {
             spawn(|| say_when_others_wait("waits\n"));
             thread::spawn(|| drop(A.lock().unwrap())).join().unwrap();
         }
+        Some("late") => {
+            let _held = A.lock().unwrap();
+            spawn(|| say_when_others_wait("waits\n"));
+            let thread = thread::spawn(|| LATE.with(|_| ()));
+            while !thread.is_finished() {
+                std::hint::spin_loop();
+            }
+            thread.join().unwrap();
+        }
         Some("scope") => {
             let held = A.lock().unwrap();
             spawn(|| say_when_others_wait("waits\n"));
@@ -78,4 +87,16 @@ fn main() {
     }
     say_when_others_wait("waits\n");
     std::thread::park();
+}
+
+struct Late;
+
+impl Drop for Late {
+    fn drop(&mut self) {
+        drop(A.lock().unwrap());
+    }
+}
+
+thread_local! {
+    static LATE: Late = const { Late };
 }

@@ -3,7 +3,7 @@
 // (other), with none (none, joined), of a thread that takes none (idle), or not at all (detached). In `deep`, the thread has held 48.
 use lockdep_record::atomic::{AtomicBool, Ordering};
 use lockdep_record::{thread, thread::Builder, Mutex, MutexGuard};
-use std::{fs::read_to_string, time::Duration};
+use std::{cell::Cell, fs::read_dir, fs::read_to_string, time::Duration};
 
 static STATE: Mutex<i32> = Mutex::new(0);
 static LOG: Mutex<i32> = Mutex::new(0);
@@ -116,6 +116,65 @@ fn main() {
             let _state = state();
             drop(thread);
         }
-        _ => assert!(hold_and_join(thread::spawn(take_many_and_work))),
+        "deep" => assert!(hold_and_join(thread::spawn(take_many_and_work))),
+        "destructor" => assert!(hold_and_join(thread::spawn(|| at_end(work)))),
+        "destructor-later" => assert!(hold_and_join(thread::spawn(|| at_end_after_log(work)))),
+        "destructor-ended" => {
+            let thread = thread::spawn(|| at_end(take_state));
+            await_others_end();
+            assert!(hold_and_join(thread));
+        }
+        "destructor-idle" => {
+            let thread = thread::spawn(|| (at_end(outlast_main), take_state()));
+            while !thread.is_finished() {
+                pause();
+            }
+            assert!(hold_and_join(thread));
+        }
+        "destructor-scope" => {
+            drop(thread::scope(|scope| {
+                scope.spawn(|| (at_end(take_state), outlast_main()));
+                state()
+            }));
+            await_others_end();
+        }
+        "destructor-scope-ended" => drop(thread::scope(|scope| {
+            scope.spawn(|| at_end(take_state));
+            await_others_end();
+            state()
+        })),
+        "destructor-std" => std::thread::spawn(|| at_end_after_log(take_state)).join().unwrap(),
+        _ => at_end_after_log(take_state),
+    }
+}
+
+// ---- What a thread does when its thread-local values go, in `destructor`: as the only thing, after its function took another lock
+// (later), in a thread that is gone before the join (ended), nothing with locks (idle), in a scope, and in threads that std started.
+
+struct AtEnd(Cell<fn()>);
+
+impl Drop for AtEnd {
+    fn drop(&mut self) {
+        self.0.get()();
+    }
+}
+
+thread_local! {
+    static AT_END: AtEnd = const { AtEnd(Cell::new(|| ())) };
+}
+
+fn at_end(work: fn()) {
+    AT_END.with(|end| end.0.set(work));
+}
+
+fn at_end_after_log(work: fn()) {
+    at_end(work);
+    drop(LOG.lock().unwrap());
+}
+
+// Waits until the other threads are gone, and not only their functions.
+fn await_others_end() {
+    while read_dir("/proc/self/task").unwrap().count() > 1 {
+        pause();
     }
 }

@@ -1,23 +1,35 @@
 //! Threads that are joined. To who joins it, a thread is a lock that it has from its start to its end, and that is taken and given back
 //! at once. What of this can matter is found out when the traces are made (tool/lockdep/joins.py).
 use super::names::Mark;
-use super::task::{has_joined, joins, may_join, wishes_to_join, Mode};
+use super::task::{end_with_thread, has_joined, joins, may_join, takings, wishes_to_join, Mode, Wish};
 use super::tries_a_little;
 use std::cell::Cell;
 use std::panic::Location;
-use std::sync::atomic::{AtomicBool, Ordering};
-use std::sync::{Arc, Condvar, Mutex, PoisonError};
+use std::sync::atomic::{AtomicBool, AtomicU32, Ordering};
+use std::sync::{Arc, Condvar, Mutex, MutexGuard, PoisonError};
+
+/// How far a thread is: its function runs or has returned, or the destructors of its thread-local values have run too. A join waits for
+/// the last, and the end of a scope for the second.
+#[derive(Clone, Copy, PartialEq, PartialOrd)]
+enum Stage {
+    Runs,
+    Returned,
+    Ended,
+}
 
 /// A thread that may be joined. It has begun if it is recorded: if it has taken a lock, or joined another one.
 pub struct Life {
     mark: Mark,
+    process: u32,
     has_begun: AtomicBool,
-    has_ended: Mutex<bool>,
-    end: Condvar,
+    takings: AtomicU32,
+    took_late: AtomicBool,
+    stage: Mutex<Stage>,
+    change: Condvar,
 }
 
 thread_local! {
-    /// What the running thread is itself, while its function runs.
+    /// What the running thread is itself, to its end.
     static OWN: Cell<*const Life> = const { Cell::new(std::ptr::null()) };
 }
 
@@ -28,7 +40,15 @@ pub fn own_life() -> *const Life {
 
 impl Life {
     pub fn new(place: &'static Location<'static>) -> Life {
-        Life { mark: Mark::of_thread(place), has_begun: AtomicBool::new(false), has_ended: Mutex::new(false), end: Condvar::new() }
+        Life {
+            mark: Mark::of_thread(place),
+            process: std::process::id(),
+            has_begun: AtomicBool::new(false),
+            takings: AtomicU32::new(0),
+            took_late: AtomicBool::new(false),
+            stage: Mutex::new(Stage::Runs),
+            change: Condvar::new(),
+        }
     }
 
     /// The thread takes its first lock. Its number as a lock, or 0 if there is no memory for it.
@@ -42,20 +62,37 @@ impl Life {
         self.mark.class()
     }
 
-    fn has_begun(&self) -> bool {
-        self.has_begun.load(Ordering::Acquire)
+    fn locked(&self) -> MutexGuard<'_, Stage> {
+        self.stage.lock().unwrap_or_else(PoisonError::into_inner)
     }
 
-    /// Whether the thread's function has returned.
-    fn has_ended(&self) -> bool {
-        *self.has_ended.lock().unwrap_or_else(PoisonError::into_inner)
+    fn stage(&self) -> Stage {
+        *self.locked()
     }
 
-    fn wait_for_end(&self) {
-        let mut has_ended = self.has_ended.lock().unwrap_or_else(PoisonError::into_inner);
-        while !*has_ended {
-            has_ended = self.end.wait(has_ended).unwrap_or_else(PoisonError::into_inner);
+    /// The thread is at a stage. (In a process that it forked nobody waits for it, and who held this lock isn't there.)
+    fn reach(&self, stage: Stage) {
+        if self.process == std::process::id() {
+            *self.locked() = stage;
+            self.change.notify_all();
         }
+    }
+
+    fn wait_until(&self, stage: Stage) {
+        let mut now = self.locked();
+        while *now < stage {
+            now = self.change.wait(now).unwrap_or_else(PoisonError::into_inner);
+        }
+    }
+
+    /// Whether the thread is recorded, or may yet be.
+    fn may_take(&self) -> bool {
+        self.stage() < Stage::Ended || self.has_begun.load(Ordering::Acquire)
+    }
+
+    /// Whether nothing that the thread took could be waited for any more by who found it at one stage and waited for another.
+    fn had_ended(&self, found: Stage, awaited: Stage) -> bool {
+        found >= awaited || (found == Stage::Returned && !self.took_late.load(Ordering::Acquire))
     }
 }
 
@@ -63,37 +100,59 @@ impl Life {
 pub struct Running(Arc<Life>);
 
 impl Running {
+    /// Comes before the program's first thread-local value, so that what the destructors of these do is still the thread's.
     pub fn begin(life: Arc<Life>) -> Running {
-        OWN.set(&*life);
+        end_with_thread();
+        OWN.set(Arc::into_raw(life.clone()));
         Running(life)
     }
 }
 
 impl Drop for Running {
     fn drop(&mut self) {
-        OWN.set(std::ptr::null());
-        *self.0.has_ended.lock().unwrap_or_else(PoisonError::into_inner) = true;
-        self.0.end.notify_all();
+        self.0.takings.store(takings(), Ordering::Relaxed);
+        self.0.reach(Stage::Returned);
     }
 }
 
-/// The running thread waits for the end of another one, or is about to wait for nothing else of it than the destructors of its
-/// thread-local values. One that is never recorded takes no lock, so it doesn't matter who waits for it.
+/// The running thread is at its end, after so many acquisitions.
+pub fn end_own_life(takings: u32) {
+    let own = OWN.replace(std::ptr::null());
+    if !own.is_null() {
+        let life = unsafe { Arc::from_raw(own) };
+        life.took_late.store(life.takings.load(Ordering::Relaxed) != takings, Ordering::Release);
+        life.reach(Stage::Ended);
+    }
+}
+
+/// The running thread waits for the end of another one.
 pub fn joined(life: &Life, place: &'static Location<'static>) {
+    waits_until(life, Stage::Ended, place);
+}
+
+/// The running thread waits until another one is at a stage. One that is never recorded takes no lock, so it doesn't matter who waits for
+/// it.
+fn waits_until(life: &Life, stage: Stage, place: &'static Location<'static>) {
     if !may_join() {
         return;
     }
-    let had_ended = life.has_ended();
-    if had_ended || tries_a_little(|| life.has_ended().then_some(())).is_some() {
-        if life.has_begun() {
-            joins(&life.mark, if had_ended { Mode::EndedThread } else { Mode::Write }, place);
-        }
+    let found = life.stage();
+    let is_there = || (life.stage() >= stage).then_some(());
+    let mut wish: Option<Wish> = None;
+    if found < stage && tries_a_little(is_there).is_none() {
+        wish = Some(wishes_to_join(&life.mark, place));
+        life.wait_until(stage);
+    }
+    if !life.may_take() {
         return;
     }
-    let wish = wishes_to_join(&life.mark, place);
-    life.wait_for_end();
-    if life.has_begun() {
-        has_joined(wish);
+    if life.had_ended(found, stage) {
+        drop(wish);
+        return joins(&life.mark, Mode::EndedThread, place);
+    }
+    match wish {
+        Some(wish) => has_joined(wish),
+        None => joins(&life.mark, Mode::Write, place),
     }
 }
 
@@ -117,8 +176,8 @@ impl Lives {
             if lives.is_empty() || !may_join() {
                 return;
             }
-            lives.iter().filter(|life| !life.has_ended()).for_each(|life| joins(&life.mark, Mode::Write, place));
-            lives.iter().for_each(|life| joined(life, place));
+            lives.iter().filter(|life| life.stage() == Stage::Runs).for_each(|life| joins(&life.mark, Mode::Write, place));
+            lives.iter().for_each(|life| waits_until(life, Stage::Returned, place));
         }
     }
 }

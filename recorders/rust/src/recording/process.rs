@@ -10,7 +10,7 @@
 //! A file is opened for each write, so that the program has no open file that it doesn't know about.
 use super::names::NAMES;
 use super::store::{List, Shared, Table, Text};
-use super::task::Task;
+use super::task::{end_with_thread, Task};
 use std::ffi::OsStr;
 use std::fmt::Write;
 use std::fs::{File, OpenOptions, Permissions};
@@ -96,9 +96,11 @@ static AT_END: extern "C" fn() = at_end;
 #[used]
 static SIGN: &[u8] = b"lockdep_record for LOCKDEP_TRACES";
 
-/// Runs before `main`, when no lock is held and the program's allocator can be used.
+/// Runs before `main`, when no lock is held, the program's allocator can be used, and no thread-local value is made.
 extern "C" fn at_start() {
-    is_on();
+    if is_on() {
+        end_with_thread();
+    }
 }
 
 extern "C" fn at_end() {

@@ -3,7 +3,7 @@
 //! Records are left out by the rule of docs/RECORDING.md: a stretch that comes back to the locks that were held at its start, and takes
 //! nothing in a way in which its thread hadn't taken it before, is dropped. A way is the held locks and the new one, in their order: a
 //! node of a tree, of which each thread has its own. What is new is written at once, unless many threads did the same.
-use super::lives::{own_life, Life};
+use super::lives::{end_own_life, own_life, Life};
 use super::names::{add_place, Mark, NAMES};
 use super::process::{self, Trace, COUNTS, PROCESS};
 use super::store::{mixed, List, Table, Text};
@@ -128,13 +128,25 @@ thread_local! {
     static GUARD: Guard = const { Guard };
 }
 
-/// Ends the thread's recording with the thread.
+/// Ends the thread's recording with the thread, and what it is itself.
 struct Guard;
 
 impl Drop for Guard {
     fn drop(&mut self) {
+        end_own_life(takings()); // (first, since the program's allocator, which it uses, may take locks)
         end_here();
     }
+}
+
+/// The running thread is recorded until the thread-local values have gone that it makes from now on: the last made goes first. False if
+/// it is at its end already.
+pub fn end_with_thread() -> bool {
+    GUARD.try_with(|_| ()).is_ok()
+}
+
+/// How many acquisitions of the running thread were recorded.
+pub fn takings() -> u32 {
+    unsafe { HERE.get().as_ref() }.map_or(0, |task| task.numbers)
 }
 
 /// What the running thread has, in a forked process.
@@ -200,7 +212,7 @@ fn begin_here() -> *mut Task {
     unsafe { task.write(Task::new()) };
     HERE.set(task);
     // (so that whatever the library does for this finds a busy thread)
-    let is_late = GUARD.try_with(|_| ()).is_err();
+    let is_late = !end_with_thread();
     unsafe { (*task).begin_life(own_life()) };
     PROCESS.with(|process| unsafe {
         (*task).serial = process.next_serial();
