@@ -391,6 +391,8 @@ static void begin(void) {
     arena = made;
     note_process(id, 0);
     note_modules();
+    if (is_for_libraries)
+        note_shared_before();
     begin_threads();
     begin_life();
     STORE(&made->magic, RAW_MAGIC);

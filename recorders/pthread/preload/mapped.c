@@ -3,12 +3,16 @@
 #include "own.h"
 
 #include <errno.h>
+#include <fcntl.h>
 #include <stdarg.h>
 #include <stdio.h>
+#include <stdlib.h>
 #include <string.h>
 #include <sys/mman.h>
 #include <sys/shm.h>
 #include <sys/stat.h>
+#include <sys/syscall.h>
+#include <sys/sysmacros.h>
 #include <unistd.h>
 
 #define REALS(X) X(mmap) X(munmap) X(mremap) X(shmat) X(shmdt)
@@ -48,6 +52,15 @@ static uint32_t known_file(const struct raw_file *file) {
 /* The system puts this behind the name of a file that has none any more. */
 #define DELETED " (deleted)"
 
+/* Cuts that off. Whether it was there. */
+static bool cut_deleted(char *path) {
+    size_t length = strlen(path), end = length > strlen(DELETED) ? length - strlen(DELETED) : 0;
+    bool is_deleted = end && strcmp(path + end, DELETED) == 0;
+    if (is_deleted)
+        path[end] = 0;
+    return is_deleted;
+}
+
 uint32_t file_of(int descriptor) {
     struct stat about;
     struct raw_file file = {.place = 0};
@@ -59,9 +72,7 @@ uint32_t file_of(int descriptor) {
     snprintf(link, sizeof link, "/proc/self/fd/%d", descriptor);
     ssize_t length = readlink(link, file.path, RAW_PATH);
     file.path[length > 0 ? length : 0] = 0;
-    size_t end = length > (ssize_t)strlen(DELETED) ? (size_t)length - strlen(DELETED) : 0;
-    if (end && strcmp(file.path + end, DELETED) == 0)
-        file.path[end] = 0;
+    cut_deleted(file.path);
     return known_file(&file);
 }
 
@@ -130,6 +141,108 @@ static void drop_regions(uintptr_t from, uintptr_t to) {
         if (r.to > to)
             put_region(to, r.to, r.file, r.offset + (to - r.from));
     }
+}
+
+/* ---- What was shared before, where the recording waits for a library to begin: the system's list of what is mapped tells it. In a line of that are
+   two addresses, rights, an offset, a device, an inode and a path. */
+
+struct list { /* of which a part has been read */
+    int file;
+    size_t at, end;
+    char text[1024];
+};
+
+struct mapping {
+    uintptr_t from, to;
+    bool is_shared; /* and may be written */
+    uint64_t offset;
+    struct raw_file file;
+};
+
+/* 0 at the end. */
+static char next_character(struct list *list) {
+    if (list->at == list->end) {
+        long length = SYSTEM(read, list->file, list->text, sizeof list->text);
+        list->at = 0;
+        list->end = length > 0 ? (size_t)length : 0;
+    }
+    return list->end ? list->text[list->at++] : 0;
+}
+
+/* With what ends it. */
+static uint64_t next_number(struct list *list, unsigned base) {
+    for (uint64_t number = 0;;) {
+        char c = next_character(list);
+        unsigned digit = c >= '0' && c <= '9' ? (unsigned)(c - '0') : c >= 'a' && c <= 'f' ? (unsigned)(c - 'a') + 10 : base;
+        if (digit >= base)
+            return number;
+        number = number * base + digit;
+    }
+}
+
+/* The rest of a line, without the spaces before it. */
+static void put_next_path(struct list *list, char *path) {
+    size_t length = 0;
+    for (char c = next_character(list); c && c != '\n'; c = next_character(list))
+        if (length < RAW_PATH && (length || c != ' '))
+            path[length++] = c;
+    path[length] = 0;
+}
+
+static bool next_mapping(struct list *list, struct mapping *m) {
+    char rights[5];
+    *m = (struct mapping){.from = next_number(list, 16)};
+    m->to = next_number(list, 16);
+    for (size_t i = 0; i < sizeof rights; i++)
+        rights[i] = next_character(list);
+    m->is_shared = rights[1] == 'w' && rights[3] == 's';
+    m->offset = next_number(list, 16);
+    unsigned major = (unsigned)next_number(list, 16), minor = (unsigned)next_number(list, 16);
+    m->file.device = makedev(major, minor);
+    m->file.inode = next_number(list, 10);
+    put_next_path(list, m->file.path);
+    return m->to != 0;
+}
+
+/* Before the key, in the name that System V's memory has there. Its number stands for an inode. */
+#define SYSTEM_V "/SYSV"
+/* What memory without a file is called there, and here. */
+#define NO_FILE "/dev/zero"
+#define SHARED_MEMORY "shared-memory"
+
+/* Memory without a file has an inode too, which no other one has. Some file systems tell another device there than to who asks for that of a file, as
+   processes do that map it later. */
+static uint32_t file_of_mapping(struct raw_file *file) {
+    struct stat about;
+    bool is_deleted = cut_deleted(file->path);
+    if (is_deleted && strncmp(file->path, SYSTEM_V, strlen(SYSTEM_V)) == 0)
+        return numbered_memory((int)file->inode, (unsigned)strtoul(file->path + strlen(SYSTEM_V), NULL, 16));
+    if (is_deleted && strcmp(file->path, NO_FILE) == 0)
+        strcpy(file->path, SHARED_MEMORY);
+    if (!is_deleted && stat(file->path, &about) == 0 && about.st_ino == file->inode)
+        file->device = about.st_dev;
+    return known_file(file);
+}
+
+/* What another thread has mapped since is noted already; nobody's locks lie in the recorder's own file. */
+static void note_shared(struct mapping *m) {
+    uint32_t file;
+    uint64_t offset;
+    if (m->from == (uintptr_t)arena || find_shared(m->from, &file, &offset))
+        return;
+    uint32_t number = file_of_mapping(&m->file);
+    if (number)
+        put_region(m->from, m->to, number, m->offset);
+}
+
+void note_shared_before(void) {
+    struct list list = {.file = (int)SYSTEM(openat, AT_FDCWD, "/proc/self/maps", O_RDONLY | O_CLOEXEC)};
+    struct mapping m;
+    while (list.file >= 0 && next_mapping(&list, &m))
+        if (m.is_shared)
+            note_shared(&m);
+    if (list.file >= 0)
+        SYSTEM(close, list.file);
 }
 
 /* ---- Mapping. */

@@ -251,6 +251,7 @@ bool find_memory(uintptr_t lock, struct memory *memory);
 void *map_own(size_t bytes, int how, int file);
 uint32_t file_of(int descriptor);
 bool find_shared(uintptr_t lock, uint32_t *file, uint64_t *offset);
+void note_shared_before(void); /* what was mapped before the recording began */
 
 /* ---- symbols.c */
 
