@@ -307,6 +307,7 @@ struct raw_arena {
     uint32_t system_threads; /* so many have numbers */
     uint64_t unfollowed_handlers; /* for which there was no stub left */
     uint64_t unknown_masks;  /* runs that met another mask than was known */
+    uint64_t unblocked_by_runs; /* as a mask: signals that handlers unblocked, also if they only put back what was before */
 };
 
 static inline uint32_t raw_size(enum raw_kind kind) {

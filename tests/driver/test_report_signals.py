@@ -191,6 +191,22 @@ class Told(OfHandlers):
         self.assertIn("  to mend it: block SIGUSR1 around pool, block SIGALRM around table, or let the handler only set a flag or write to a pipe", lines)
         self.assertFalse([name for name in os.listdir(self.folder) if name.startswith(".")])
 
+    def test_two_signals_of_one_thread(self):
+        self.two_at_once()
+        self.handlers(dict(USR1, alone=True), ALARM)
+        self.assertEqual([finding.handler.state for finding in self.findings()], ["SIGALRM:on_alarm"])
+        self.handlers(dict(USR1, alone=True), dict(ALARM, alone=True))
+        self.assertEqual(self.findings(), [])
+
+    def test_what_one_thread_is_enough_for(self):
+        alone = dict(USR1, alone=True)
+        self.handlers(alone)
+        self.set_of(1, TABLE, IN_USR1)
+        self.assertEqual([finding.type for finding in self.findings()], ["double"])
+        run = [("enter,hardirq", ""), ("acq,table,0,w", ""), ("acq,pool,0,w", ""), ("rel,pool,0", ""), ("rel,table,0", ""), ("leave", "")]
+        self.set_of(1, POOL, run)
+        self.assertEqual([finding.type for finding in self.findings()], ["double", "inversion"])
+
     def test_one_signal_of_two_alone(self):
         self.two_at_once()
         self.handlers(USR1)

@@ -5,7 +5,7 @@ from __future__ import annotations
 from .cplusplus import without_parameters
 from .explanation import Line
 from .findings import Event, Finding, Order
-from .signals import THREADS, Handler, is_run, words_of
+from .signals import THREADS, Handler, is_order_of_handler, words_of
 from .sources import Sources
 from .steps import MODES, task_words
 from .symbols import Frame, place_words
@@ -124,11 +124,6 @@ def end_lines(finding: Finding) -> list[Line]:
     threads = ["thread 1 holds %s" % plain_key(finding.keys[-1])] + task_words(finding, plain_key)
     lines = [Line("  " + ", ".join(threads)), Line("  %s comes in at thread 1, and its handler waits for %s" % (signal, plain_key(key)))]
     return lines + ([Line(ONE_THREAD.format(plain_key(finding.keys[-1]), signal, plain_key(key)))] if is_order_of_handler(finding) else [])
-
-
-def is_order_of_handler(finding: Finding) -> bool:
-    """Whether the handler itself takes the one lock with the other one held."""
-    return len(finding.orders) == 1 and finding.orders[0].event is not None and not finding.orders[0].signal and is_run(finding.orders[0].event.file)
 
 
 def remarks_of_signal(finding: Finding, handler: Handler) -> list[str]:

@@ -55,6 +55,7 @@ class Handler:
     queued: tuple[str, ...] = ()
     others: tuple[str, ...] = ()
     is_late: bool = False  # whether each thread that got it had taken its last lock by then
+    is_alone: bool = False  # whether each process that has it has one thread, which can't wait for another one
     is_in_one_thread: bool = False  # whether it runs in one thread of a process alone, as all handlers of Python
 
     @property
@@ -153,7 +154,7 @@ def handler_of(said: dict) -> Handler:
     return Handler(signal, text_of(said, "handler"), text_of(said, "module"), offset_of(said), text_of(said, "file"), number_of(said, "line"),
                    number_of(said, "number"), number_of(said, "runs"), number_of(said, "takes"), sent_to, names_of(said, "narrow"),
                    names_of(said, "rwlocks"), names_of(said, "queued"), names_of(said, "others"),
-                   said.get("late") is True, said.get("one_thread") is True)
+                   said.get("late") is True, said.get("alone") is True, said.get("one_thread") is True)
 
 
 def handlers_in(folder: str, name: str) -> list[Handler]:
@@ -207,13 +208,13 @@ class Signals:
         self.findings = [finding for type in ("double", "inversion") for finding in found if finding.type == type]
 
     def findings_about(self, handler: Handler, links: Links | None, answer: Answer, room: str) -> list[Finding]:
-        """The doubles and inversions of a handler's set. Its circles are in the threads' own traces too."""
+        """The doubles and inversions of a handler's set."""
         found, traces = findings_of(answer.output), self.traces_of(handler)
         of_set, again = os.path.join(self.folder, str(handler.number)), os.path.join(room, str(handler.number))
         if found and os.path.lexists(os.path.join(of_set, WEAK)):
             os.mkdir(again)
             weaken(found, of_set, traces + ([links.path] if links else []), again)
-        found = without_own_joins([finding for finding in found if finding.type != "circle"], traces)
+        found = without_own_joins([finding for finding in found if may_happen(finding, handler)], traces)
         for finding in found:
             take_handler(finding, handler)
         note_gates(found, handler, traces)
@@ -286,6 +287,16 @@ def records_of(trace: str) -> list[tuple[str, list[Address]]]:
 def is_run(trace: str) -> bool:
     """Whether a trace of a set is that of a handler's runs."""
     return "\nenter," in text_in(trace)
+
+
+def may_happen(finding: Finding, handler: Handler) -> bool:
+    """Whether it isn't a circle, which is in the threads' own traces too, nor an inversion that takes a second thread where there is none."""
+    return finding.type == "double" or (finding.type == "inversion" and (not handler.is_alone or is_order_of_handler(finding)))
+
+
+def is_order_of_handler(finding: Finding) -> bool:
+    """Whether the handler itself takes the one lock with the other one held."""
+    return len(finding.orders) == 1 and finding.orders[0].event is not None and not finding.orders[0].signal and is_run(finding.orders[0].event.file)
 
 
 def words_of(handler: Handler, symbols: Symbols) -> str:

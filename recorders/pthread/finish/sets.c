@@ -20,6 +20,7 @@ struct source {
     uint64_t runs, continued;
     bool is_sent_to_process; /* else to threads alone */
     bool is_of_locking;      /* its program takes locks */
+    bool has_others;         /* a program that has it starts threads or shares locks, or a handler unblocks it */
     bool is_late;            /* it comes only when its thread has taken its last lock */
     uint32_t number;         /* of its set; 0: it has none */
     struct locks taken;      /* the single locks that its runs waited for */
@@ -76,6 +77,35 @@ static struct source *source_like(unsigned signal, uint64_t handler) {
     return new;
 }
 
+static bool shares_locks(const struct arena *a) {
+    for (uint32_t n = 1; n <= count_of(a, RAW_OBJECTS); n++)
+        if (((const struct raw_object *)part_of(a, RAW_OBJECTS, n))->ordinal == RAW_SHARED)
+            return true;
+    return false;
+}
+
+/* Whether a process has a second thread, by its traces and by runs of handlers; one that does neither is known by its start. */
+static bool has_second_thread(const struct arena *a) {
+    uint32_t count = count_of(a, RAW_PROCESSES), *of = checked(calloc(count + 1, sizeof *of));
+    uint32_t traces = count_of(a, RAW_THREADS), all = traces + count_of(a, RAW_RUNS);
+    bool has_second = false;
+    for (uint32_t n = 1; n <= all; n++) {
+        const struct raw_thread *t = n <= traces ? part_of(a, RAW_THREADS, n) : NULL;
+        const struct raw_run *run = t ? NULL : part_of(a, RAW_RUNS, n - traces);
+        uint32_t process = t ? t->process : run->process, thread = t ? t->system_thread : run->system_thread;
+        uint32_t *known = &of[process <= count ? process : 0];
+        has_second |= !process || (*known && *known != thread);
+        *known = thread;
+    }
+    free(of);
+    return has_second;
+}
+
+/* Whether two threads of a program, which may be of two processes, can wait for one another. A process that started no thread has its main one alone. */
+static bool has_threads(const struct arena *a) {
+    return count_of(a, RAW_LIVES) || a->raw->regions[RAW_LIVES].refused || a->raw->no_thread || shares_locks(a) || has_second_thread(a);
+}
+
 static bool takes_locks(const struct arena *a) {
     for (uint32_t n = 1; n <= count_of(a, RAW_THREADS); n++)
         if (((const struct raw_thread *)part_of(a, RAW_THREADS, n))->calls)
@@ -85,7 +115,7 @@ static bool takes_locks(const struct arena *a) {
 
 static void read_sources(struct arena *a) {
     uint32_t count = count_of(a, RAW_SOURCES);
-    bool is_locking = takes_locks(a);
+    bool is_locking = takes_locks(a), has_others = count && has_threads(a);
     a->sources = checked(calloc(count + 1, sizeof *a->sources));
     for (uint32_t n = 1; n <= count; n++) {
         const struct raw_source *raw = part_of(a, RAW_SOURCES, n);
@@ -94,6 +124,7 @@ static void read_sources(struct arena *a) {
         a->sources[n] = source_like(raw->signal, told_word(a, raw->handler));
         a->sources[n]->continued += raw->continued;
         a->sources[n]->is_of_locking |= is_locking;
+        a->sources[n]->has_others |= has_others || (a->raw->unblocked_by_runs >> (raw->signal - 1) & 1);
     }
 }
 
@@ -347,13 +378,6 @@ static bool has_source(const struct arena *a, const struct source *source) {
     return false;
 }
 
-static bool shares_locks(const struct arena *a) {
-    for (uint32_t n = 1; n <= count_of(a, RAW_OBJECTS); n++)
-        if (((const struct raw_object *)part_of(a, RAW_OBJECTS, n))->ordinal == RAW_SHARED)
-            return true;
-    return false;
-}
-
 /* Programs that neither have the handler nor share a lock say nothing of it. */
 static void write_set(const char *folder, struct source *source) {
     char path[4300];
@@ -421,8 +445,8 @@ static void write_locks(FILE *file, const char *what, const struct locks *locks,
 static void write_source(FILE *file, const struct source *s) {
     fprintf(file, "{\"number\": %u, ", s->number);
     write_about(file, s);
-    fprintf(file, ", \"runs\": %lu, \"sent_to\": \"%s\", \"takes\": %lu", (unsigned long)s->runs,
-            s->is_sent_to_process ? "process" : "threads", (unsigned long)s->taken.count);
+    fprintf(file, ", \"runs\": %lu, \"sent_to\": \"%s\", %s\"takes\": %lu", (unsigned long)s->runs,
+            s->is_sent_to_process ? "process" : "threads", s->has_others ? "" : "\"alone\": true, ", (unsigned long)s->taken.count);
     write_locks(file, "narrow", &s->narrow, NULL, NULL);
     write_locks(file, "others", &s->others, NULL, NULL);
     write_locks(file, "rwlocks", &s->rwlocks, NULL, NULL);

@@ -30,11 +30,19 @@ static uint64_t word_of_set(const sigset_t *set) { return *(const uint64_t *)set
 
 #define NEVER (bit_of(SIGKILL) | bit_of(SIGSTOP))
 
+/* A handler that unblocks a signal may do so in code that has it blocked. */
+static void note_unblocked(uint64_t signals) {
+    if (signals && level_of_runs() && is_recording())
+        __atomic_or_fetch(&arena->unblocked_by_runs, signals, __ATOMIC_RELAXED);
+}
+
 void set_mask(uint64_t mask, struct call call) {
     uint64_t before = self.mask;
     self.mask = mask & ~NEVER;
-    if ((before ^ self.mask) & LOAD(&handled))
-        turned(call);
+    if (!((before ^ self.mask) & LOAD(&handled)))
+        return;
+    note_unblocked(before & ~self.mask);
+    turned(call);
 }
 
 static uint64_t mask_after(int how, uint64_t before, uint64_t set) {
