@@ -1,4 +1,4 @@
-/* With LOCKDEP_LIBRARIES in place of LOCKDEP_RECORD: what is recorded are the locks of the C libraries that a program in Python or Java has loaded,
+/* With LOCKDEP_LIBRARIES instead of LOCKDEP_RECORD: what is recorded are the locks of the C libraries that a program in Python or Java has loaded,
    and nothing else. The process is as if there was no recorder until such a library calls for the first time. From then on a lock is recorded if such
    a library has made or taken it, whoever takes it later. Those of the interpreter, of the virtual machine and of the system's libraries aren't. */
 #include "own.h"
