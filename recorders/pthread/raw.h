@@ -1,7 +1,8 @@
 /* What the preload library leaves for `finish`: one file for each program that was run, FOLDER/raw/PROCESS-N.arena. The file is
    sparse and mapped whole when the program starts. Threads, records and definitions take their parts of it by atomic additions,
    so it needs no descriptor and no system call later, and a process that dies loses nothing. A forked child goes on in its
-   parent's file. FOLDER/raw/PROCESS-N.refused stands for a program whose file couldn't be made.
+   parent's file. FOLDER/raw/PROCESS-N.refused stands for a program whose file couldn't be made. In FOLDER/raw/generations the
+   processes count how often locks that they share were initialised; objects say what they read there.
 
    Numbers of places, classes, objects, modules, processes and threads count from 1; 0 is none. */
 #ifndef LOCKDEP_RAW_H
@@ -153,10 +154,14 @@ struct raw_object {
     uint32_t file;    /* of a lock that processes share; else 0 */
     uint32_t is_signal; /* it is a semaphore that isn't used as a lock: nothing of it goes into the traces */
     uint32_t knows;   /* an enum raw_knows, of a lock that a handler took */
+    uint32_t generation; /* of a lock that processes share: one more than how often it was initialised; 0 if that isn't known */
 };
 
 /* The ordinal of an object that processes share. It has no other one. */
 #define RAW_SHARED (RAW_APART + 1)
+
+/* The last generation of such a lock, which stands for all later ones too. */
+#define RAW_GENERATIONS 32
 
 /* Memory that processes share, or a file that is locked itself. */
 struct raw_file {

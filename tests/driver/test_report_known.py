@@ -175,6 +175,39 @@ class Hiding(unittest.TestCase):
                            ("function:flush_all file:disk.c", 0), ("function:other file:disk.c", 2)):
             self.assertEqual(len(sorted_by("cycle %s\n" % text).new), left, text)
 
+    def test_a_pattern_hides_no_stronger_verdict_and_none_that_is_unknown(self):
+        kinds = ("locks", "perhaps", "unknown", "ended-thread", "timed", "classes", "new-lock", "types")
+        inner = circle("a#1/0", "b#1/0")
+        for word, weaker in (("seen-between-locks", kinds), ("perhaps-seen-between-locks", kinds[1:]), ("seen-only-by-timed-waits", kinds[4:]),
+                             ("seen-only-between-classes", kinds[5:]), ("seen-only-between-types", kinds[7:])):
+            for kind in kinds:
+                result = sorted_by("cycle verdict:%s\n" % word, {}, [circle("a/0", "b/0", between=between(kind, inner))])
+                self.assertEqual(not result.new, kind in weaker, (word, kind))
+            self.assertEqual(len(sorted_by("cycle verdict:%s\n" % word).new), 2)
+        # A comment of --write-known below a pattern is none of its words.
+        said = [circle("a/0", "b/0", between=between("locks", inner))]
+        self.assertEqual(len(sorted_by("cycle verdict:seen-only-between-classes\n#   seen between locks\n", {}, said).new), 1)
+
+    def test_a_pattern_of_a_verdict_that_is_none_is_refused(self):
+        for word in ("seen-between", "seen", "made-to-happen-by-`lockdep-provoke`", "seen-only-between-class?s"):
+            with self.assertRaises(Refusal) as raised:
+                entries_of("\ncycle class:a verdict:%s\n" % word, "list")
+            self.assertTrue(raised.exception.line.startswith(
+                "list: line 2 has a `verdict:` that is none; the verdicts are seen-between-locks, perhaps-seen-between-locks, "), raised.exception.line)
+
+    def test_a_pattern_needs_a_module_of_all_locks(self):
+        places = {name: ("init", []) for name in ("a", "b")}  # (in files of the same names)
+        for text, left in (("module:a module:b", 0), ("module:[ab] class:*", 0), ("module:a", 1), ("module:a class:a class:b", 1), ("module:x*", 1)):
+            self.assertEqual(len(sorted_by("cycle %s\n" % text, places, TWO[:1]).new), left, text)
+        self.assertEqual(len(sorted_by("cycle module:*\n", {"a": ("init", [])}, TWO[:1]).new), 1)
+
+    def test_the_file_alone_is_a_module(self):
+        sources = Made_up({"a": ("init", [])})
+        for path, offset, left in (("/lib/libx.so.3", 16, 0), ("/opt/libx.so.3/libz.so", 16, 1), ("/lib/notlibx.so.3", 16, 1), ("libx.so.3:7", None, 1)):
+            sources.classes["a"] = Made("a", Address(path, offset), "init", "a")
+            result = sort(findings([circle("a/0")]), [], entries_of("cycle module:libx.so*\n", "list"), sources)
+            self.assertEqual(len(result.new), left, path)
+
     def test_what_was_not_found_is_told(self):
         self.assertEqual(sorted_by("double hardirq x/0\ncycle class:x\n" + LINES).gone, ["cycle class:x", "double hardirq x/0"])
 
@@ -182,6 +215,28 @@ class Hiding(unittest.TestCase):
 def made_in(*functions, file="one.c", line=3, kind="heap"):
     """Where a lock is made, by these callers, each a line below the one before it."""
     return kind, [Frame(function, os.path.abspath(file), line + place, "") for place, function in enumerate(functions)]
+
+
+class Libraries(unittest.TestCase):
+    """The tool's own list of libraries, beside that of the user."""
+
+    LIST = "cycle class:a class:b # a before b\ncycle class:x # x\n"
+
+    def sorted_by(self, text):
+        return sort(findings(TWO), [], entries_of(text, "list"), Made_up({}), libraries=entries_of(self.LIST, "libraries"))
+
+    def test_what_is_hidden_has_its_reason_and_the_rest_is_not_told(self):
+        result = self.sorted_by("")
+        self.assertEqual((keys(result.new), keys(result.known), [reason for _, reason in result.libraries]), (["c/0"], ["a/0"], ["a before b"]))
+        self.assertEqual((result.known_lines, result.gone, result.stale), (0, [], []))
+
+    def test_the_list_of_the_user_comes_first(self):
+        result = self.sorted_by(LINES)
+        self.assertEqual((keys(result.known), result.libraries, result.known_lines), (["a/0"], [], 2))
+
+    def test_a_list_that_is_written_lacks_what_is_hidden(self):
+        text = list_of(findings(TWO), "", Made_up({}), libraries=entries_of(self.LIST, "libraries"))
+        self.assertEqual([line for line in text.split("\n") if line.startswith("circle")], ["circle c/0 EN d/0", "circle d/0 EN c/0"])
 
 
 class OtherLocks(unittest.TestCase):

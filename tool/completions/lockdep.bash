@@ -2,7 +2,7 @@
 
 _lockdep_options() {
     case $1 in
-        run) echo -o --recorder --frames --signals --known --write-known --strict-known --html --sarif --junit --json --accept-left-out --quiet --error-exitcode --confirmed-only --help ;;
+        run) echo -o --recorder --frames --signals --known --no-library-list --write-known --strict-known --html --sarif --junit --json --accept-left-out --quiet --error-exitcode --confirmed-only --help ;;
         provoke) echo -o --from --recorder --runs --pause --finding --keep --core --while --stdin --help ;;
         check) echo --workers --many --help ;;
         explain) echo --workers --many --json --locks --confirmed-only --help ;;

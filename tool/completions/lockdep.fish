@@ -33,6 +33,7 @@ complete -c lockdep -n '__lockdep_in run' -l recorder -x -a 'pthread python java
 complete -c lockdep -n '__lockdep_in run' -l frames -x -d 'By how many callers a lock class is named'
 complete -c lockdep -n '__lockdep_in run' -l signals -x -a 'off locks all' -d 'What is recorded of signal handlers'
 complete -c lockdep -n '__lockdep_in run' -l known -r -d 'Findings that are known'
+complete -c lockdep -n '__lockdep_in run' -l no-library-list -d 'Leave out the tool's own list of known findings'
 complete -c lockdep -n '__lockdep_in run' -l write-known -r -d 'Write the findings of this run'
 complete -c lockdep -n '__lockdep_in run' -l strict-known -d 'Stale entries of --known fail too'
 complete -c lockdep -n '__lockdep_in run' -l html -r -d 'Where the page goes'

@@ -73,6 +73,7 @@ def locks_of(finding: Finding, found: Found) -> list[dict]:
 def finding_json(finding: Finding, found: Found) -> dict:
     said: dict = dict(with_places(finding.json, found))
     said["known"] = finding in found.known
+    said.update({"library": found.reason_of(finding)} if found.reason_of(finding) else {})
     said["level"] = found.level(finding)
     said["verdict"] = (found.remarks(finding) or [""])[-1]
     said["remarks"] = found.remarks(finding)

@@ -41,7 +41,7 @@ def wishes_of_environment() -> Wishes:
     exitcode = variable("ERROR_EXITCODE")
     return Wishes(known, text, variable("WRITE_KNOWN"), bool(variable("QUIET")), int(exitcode) if exitcode else None,
                   bool(variable("CONFIRMED_ONLY")), bool(variable("STRICT_KNOWN")), variable("HTML"), variable("SARIF"),
-                  variable("JUNIT"), variable("JSON"))
+                  variable("JUNIT"), variable("JSON"), bool(variable("NO_LIBRARY_LIST")))
 
 
 def command_end(status: int) -> str:

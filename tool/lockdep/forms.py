@@ -47,6 +47,7 @@ class Found:
     breaches: list[Breach] = field(default_factory=list)
     known_breaches: list[Breach] = field(default_factory=list)
     signals: Signals | None = None  # if the recording has any
+    libraries: list[tuple[Finding, str]] = field(default_factory=list)  # known by the tool's own list, each with its reason
 
     @classmethod
     def of_run(cls, report: Report) -> Found:
@@ -57,7 +58,7 @@ class Found:
             return cls([], [], Sources(), Recorded(files), files, recording.lost, waiting, summary=recording.summary, signals=report.asked.signals)
         return cls(result.new, result.known, report.sources, report.recorded, files, recording.lost, waiting, report.blocked,
                    recording.summary, known_blocked=result.known_blocked, breaches=report.breaches,
-                   known_breaches=result.known_breaches, signals=report.asked.signals)
+                   known_breaches=result.known_breaches, signals=report.asked.signals, libraries=result.libraries)
 
     @property
     def findings(self) -> list[Finding]:
@@ -84,6 +85,10 @@ class Found:
         if finding in self.known or finding.is_note:
             return "note"
         return "error" if finding.is_confirmed or finding.kind is Kind.PERHAPS else "warning"
+
+    def reason_of(self, finding: Finding) -> str:
+        """Why the tool's own list of libraries has a finding; empty if it doesn't."""
+        return next((reason for other, reason in self.libraries if other is finding), "")
 
     def class_files(self) -> list[str]:
         """The traces of classes, of which the picture is."""

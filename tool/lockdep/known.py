@@ -2,6 +2,7 @@
 list can't hide a finding of locks that are made elsewhere now, or one with a stronger verdict: then it is stale, and hides nothing."""
 from __future__ import annotations
 
+import os
 import re
 from collections import Counter
 from dataclasses import dataclass, field
@@ -24,10 +25,12 @@ PLACE_COMMENT = re.compile(r"#   [^ ]+: ")
 
 @dataclass
 class Sorted:
-    """Findings held against a list: those that are new, those that are known, and what is to be said of the list."""
+    """Findings held against a list: those that are new, those that are known, and what is to be said of the list. Of those that are
+    known by the tool's own list of libraries, `libraries` has the reasons too."""
 
     new: list[Finding]
     known: list[Finding] = field(default_factory=list)
+    libraries: list[tuple[Finding, str]] = field(default_factory=list)
     blocked: list[Blocked] = field(default_factory=list)
     known_blocked: int = 0
     breaches: list[Breach] = field(default_factory=list)
@@ -53,6 +56,13 @@ def classes_of(keys: list[str], sources: Sources) -> list[tuple[str, ...]]:
     return list(dict.fromkeys(names_of_type(name_in(key), sources) for key in keys))
 
 
+def modules_of(keys: list[str], sources: Sources) -> list[str]:
+    """The names of the files in which keys' locks are made, or lie; empty for one that isn't known."""
+    several = [sources.made_as(name_in(key)) for key in keys]
+    return list(dict.fromkeys(os.path.basename(made.place.module) if made and made.place.offset is not None else ""
+                              for all_made in several for made in all_made or [None]))
+
+
 def frames_of(events: list, sources: Sources) -> list[tuple[str, str]]:
     """The function and the path of each caller of some records, with and without the function's parameters."""
     return names_of([frame for event in events for frame in sources.frames(event)])
@@ -68,13 +78,14 @@ def fits_finding(entry: Entry, finding: Finding, sources: Sources) -> bool:
         return False
     keys = keys_of(finding)[:len(finding.keys) + 2 * len(finding.orders)]
     frames, handler = frames_of(finding.events(), sources), finding.handler
-    if not handler:
-        return entry.hides(finding.type, classes_of(keys, sources), frames)
-    return entry.hides(finding.type, classes_of(keys, sources), frames + names_of([handler.frame(sources.symbols)]), handler.signal)
+    frames += names_of([handler.frame(sources.symbols)]) if handler else []
+    return entry.hides(finding.type, classes_of(keys, sources), frames, handler.signal if handler else "",
+                       modules_of(keys, sources), finding.kind)
 
 
 def fits_blocked(entry: Entry, thread: Blocked | Breach, sources: Sources) -> bool:
-    return entry.is_pattern and entry.hides(thread.type, classes_of(thread.keys, sources), frames_of(thread.events, sources))
+    return entry.is_pattern and entry.hides(thread.type, classes_of(thread.keys, sources), frames_of(thread.events, sources),
+                                            modules=modules_of(thread.keys, sources))
 
 
 def pattern_of(breach: Breach, sources: Sources) -> str:
@@ -83,12 +94,19 @@ def pattern_of(breach: Breach, sources: Sources) -> str:
     return pattern_text(breach.type, [names[0] for names in classes_of(breach.keys, sources)], functions[0] if functions else "")
 
 
+def reason_in(libraries: list[Entry], finding: Finding, sources: Sources) -> str | None:
+    """The reason of the entry of the list of libraries that fits a finding, if one does."""
+    fitting = [] if finding.is_note else [entry.reason for entry in libraries if fits_finding(entry, finding, sources)]
+    return fitting[0] if fitting else None
+
+
 # ---- All together.
 
 
 def sort(findings: list[Finding], blocked: list[Blocked], entries: list[Entry], sources: Sources, traces: list[str] = (),
-         breaches: list[Breach] = ()) -> Sorted:
-    """Holds what was found against a list. The traces are those of the recording, if there is one."""
+         breaches: list[Breach] = (), libraries: list[Entry] = ()) -> Sorted:
+    """Holds what was found against a list, and then against that of libraries. The traces are those of the recording, if there is
+    one."""
     result = Sorted([])
     judge = Judge(findings, TakingPart(sources, list(traces)))
     fresh = judge.fresh(entries)
@@ -100,7 +118,10 @@ def sort(findings: list[Finding], blocked: list[Blocked], entries: list[Entry], 
         fitting = [entry for entry in fresh if fits_finding(entry, finding, sources)]
         used.update(entry.number for entry in fitting)
         hidden.update(finding.lines if fitting else ())
-        (result.known if fitting or set(finding.lines) <= lines else result.new).append(finding)
+        is_listed = bool(fitting) or set(finding.lines) <= lines
+        reason = None if is_listed else reason_in(libraries, finding, sources)
+        (result.known if is_listed or reason is not None else result.new).append(finding)
+        result.libraries += [] if reason is None else [(finding, reason)]
     for thread in blocked:
         fitting = [entry for entry in fresh if fits_blocked(entry, thread, sources)]
         used.update(entry.number for entry in fitting)
@@ -144,16 +165,18 @@ def is_comment_of_entry(line: str) -> bool:
     return bool(PLACE_COMMENT.match(line.strip()) or TEXT.fullmatch(line.strip())) or line.strip() in VERDICT
 
 
-def list_of(findings: list[Finding], old: str, sources: Sources, traces: list[str] = (), breaches: list[Breach] = ()) -> str:
-    """A list of all findings, with a pattern for each breach. In an existing one comments and patterns stay, and entries that weren't found
-    are removed."""
+def list_of(findings: list[Finding], old: str, sources: Sources, traces: list[str] = (), breaches: list[Breach] = (),
+            libraries: list[Entry] = ()) -> str:
+    """A list of all findings but those of the list of libraries, with a pattern for each breach. In an existing one comments and patterns
+    stay, and entries that weren't found are removed."""
     found, kept = report_lines(findings), []
     listed: Counter[str] = Counter()
     of_lines = by_line(findings)
     comments = Comments(findings, TakingPart(sources, list(traces)))
     entries = {entry.number: entry for entry in entries_of(old, "")}
     patterns = [entry for entry in entries.values() if entry.is_pattern and not entry.is_expired(today())]
-    hidden = {line for finding in findings if any(fits_finding(entry, finding, sources) for entry in patterns) for line in finding.lines}
+    hidden = {line for finding in findings if any(fits_finding(entry, finding, sources) for entry in patterns + list(libraries))
+              for line in finding.lines}
     for number, line in enumerate(old.split("\n")[:-1] if old.endswith("\n") else old.split("\n") if old else [], 1):
         entry = entries.get(number)
         if entry and not entry.is_pattern and entry.line not in of_lines or is_comment_of_entry(line):

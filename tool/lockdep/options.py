@@ -76,14 +76,19 @@ RUN = Command("run", "record a command, check its traces, and explain what was f
            "empty, /dev/null, or a pipe",
            "The lines are those of a report that begin with `circle`, `double` or `inversion`, patterns, blank lines, and comments that begin with `#`. "
            "They are counted, and those that no longer occur are named. A pattern is `cycle`, `double`, `inversion`, `blocked`, `order` or `hold`, and then words "
-           "`class:NAME`, `function:NAME`, `file:PATH` and `signal:NAME`, in which `*` and `?` stand for any characters. It fits a finding of which each "
-           "lock is of one of these classes, of which a record comes from such a function in such a file, and in which such a signal comes in; what "
-           "isn't given is any. An entry may end with "
+           "`class:NAME`, `module:FILE`, `function:NAME`, `file:PATH`, `signal:NAME` and `verdict:WORDS`, in which `*` and `?` stand for any "
+           "characters. It fits a finding of which each lock is of one of these classes and was made in such a program or library, of which a record "
+           "comes from such a function in such a file, in which such a signal comes in, and whose verdict is this one or a weaker one, as "
+           "`verdict:seen-only-between-classes`; what isn't given is any. An entry may end with "
            "`# reason` and `until 2027-03-01`: after that day it hides nothing. A reason with `until` and no date at its end is refused. Of a pipe 100,000 "
            "bytes are taken. An entry names locks as the report does. The names of static locks are symbols, and stay. Those of locks that a call initialises, or that lie in objects from the heap, have "
            "an offset in the code of a function, as `main+0x13.m0`: after an edit of that function a known finding may look new. An entry is stale if "
            "a lock that takes part now is made in a function or file that no comment of --write-known lists, or if a finding has a stronger verdict than "
            "the listed one: it is named, and hides nothing. Names with an offset whose source line is another one are listed."),
+    Option("--no-library-list", None, "leave out the tool's own list of known findings",
+           "Leave out the tool's own list of known findings, of libraries whose locks are nested by design",
+           "What that list hides is counted, with the reason, and is known in each form as what is on the list of a user. It never makes an entry "
+           "stale."),
     Option("--write-known", FILE, "write the findings of this run", "Write the findings of this run to a file for --known",
            "If the file exists, its comments and the entries that still occur stay. Under each entry comments that begin with `#` and three spaces say "
            "where its locks are made, and what its findings were seen between; these are written anew."),

@@ -78,6 +78,9 @@ def header(found: Found) -> str:
     said += warnings_html(found)
     if found.known:
         said += "<p>%s left out.</p>\n" % counted(len(found.known), "more known finding is", "more known findings are")
+    for reason in dict.fromkeys(reason for _, reason in found.libraries):
+        said += '<p class="note">The tool’s own list of libraries has %s of these: %s.</p>\n' % (
+            sum(other == reason for _, other in found.libraries), escaped(reason))
     if found.findings:
         return said + finding_list(found.findings, "Findings") + legend(found.findings) + "</header>\n"
     return said + "<p>This says nothing about what isn’t in the traces.</p>\n</header>\n"

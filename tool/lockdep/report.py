@@ -17,9 +17,11 @@ if TYPE_CHECKING:
     from .breaches import Breach
     from .known import Sorted
     from .sources import Sources
+    from .suppressions import Entry
     from .verdict import Recorded
 
 NOT_JUDGED = 2
+LIBRARIES = os.path.join(os.path.dirname(os.path.abspath(__file__)), "libraries.known")  # known findings of libraries, which come with the tool
 PAGE = "report.html"
 STANDARD_OUTPUT = "-"
 LISTED = "RECORDED"  # the file that lists what a recording made in its folder
@@ -30,11 +32,17 @@ class Wishes:
 
     def __init__(self, known: str = "", known_text: str = "", write_known: str = "", quiet: bool = False, error_exitcode: int | None = None,
                  confirmed_only: bool = False, strict_known: bool = False, html: str = "", sarif: str = "", junit: str = "",
-                 json: str = "") -> None:
+                 json: str = "", no_libraries: bool = True) -> None:
         self.known, self.known_text, self.write_known = known, known_text, write_known
         self.quiet, self.error_exitcode = quiet, error_exitcode
         self.confirmed_only, self.strict_known = confirmed_only, strict_known
         self.html, self.sarif, self.junit, self.json = html, sarif, junit, json
+        self.no_libraries = no_libraries
+
+    def entries_of_libraries(self) -> list[Entry]:
+        from .asking import text_in
+        from .suppressions import entries_of
+        return [] if self.no_libraries else entries_of(text_in(LIBRARIES), LIBRARIES)
 
     @property
     def forms(self) -> dict[str, str]:
@@ -90,7 +98,7 @@ class Report:
             sources_wanted(blocked + self.all_breaches, self.sources)
             self.sources.ask()
         entries = entries_of(self.wishes.known_text, self.wishes.known)
-        self.sorted = sort(findings, blocked, entries, self.sources, self.asked.traces, self.all_breaches)
+        self.sorted = sort(findings, blocked, entries, self.sources, self.asked.traces, self.all_breaches, self.wishes.entries_of_libraries())
 
     def look_deeper(self) -> None:
         """What the recording itself says of the findings that are new."""
@@ -174,7 +182,7 @@ class Report:
         from .files import write_in_place
         from .known import list_of
         name = self.wishes.write_known
-        text = list_of(self.asked.findings(), text_in(name), self.sources, self.asked.traces, self.all_breaches)
+        text = list_of(self.asked.findings(), text_in(name), self.sources, self.asked.traces, self.all_breaches, self.wishes.entries_of_libraries())
         try:
             write_in_place(bytes_of(name), bytes_of(text))
         except OSError:
@@ -185,7 +193,15 @@ class Report:
 
     # ---- What is printed.
 
+    def say_of_libraries(self) -> None:
+        """How many findings the list of libraries hides, with each of its reasons."""
+        from collections import Counter
+        for reason, count in Counter(reason for _, reason in self.sorted.libraries).items() if self.sorted else ():
+            say("%s left out, since the tool's own list of libraries has %s (%s); --no-library-list leaves out that list" % (
+                counted(count, "finding"), "it" if count == 1 else "them", visible(reason)))
+
     def say_of_known(self) -> None:
+        self.say_of_libraries()
         if not self.sorted or not self.wishes.known:
             return
         name, result = visible(self.wishes.known), self.sorted
@@ -243,7 +259,7 @@ class Report:
 
     def conclude(self) -> None:
         """What is printed at the end. With --quiet that is nothing, if nothing was found and nothing is in doubt."""
-        nothing = "nothing new" if self.sorted and self.sorted.known_lines else "nothing"
+        nothing = "nothing new" if self.sorted and (self.sorted.known_lines or self.sorted.libraries) else "nothing"
         is_stale = bool(self.sorted and self.sorted.stale)
         if self.has_new or self.is_hung:
             self.recording.say_messages()

@@ -122,7 +122,7 @@ def look_at_form(file: str, folder: str) -> None:
 
 def wishes(home: str, line: Words, recorder: Recorder) -> dict[str, str]:
     known = {"LOCKDEP_RUN_" + name: line.last(option) for name, option in (
-        ("KNOWN", "--known"), ("WRITE_KNOWN", "--write-known"), ("QUIET", "--quiet"), ("ERROR_EXITCODE", "--error-exitcode"),
+        ("KNOWN", "--known"), ("NO_LIBRARY_LIST", "--no-library-list"), ("WRITE_KNOWN", "--write-known"), ("QUIET", "--quiet"), ("ERROR_EXITCODE", "--error-exitcode"),
         ("CONFIRMED_ONLY", "--confirmed-only"), ("STRICT_KNOWN", "--strict-known"), ("HTML", "--html"), ("SARIF", "--sarif"), ("JUNIT", "--junit"), ("JSON", "--json"))}
     known["LOCKDEP_RUN_HOME"], known["LOCKDEP_RUN_RECORDER"] = home, recorder.name
     known["LOCKDEP_RUN_PROGRAM"], known["LOCKDEP_RUN_VERSION"] = checker(home)

@@ -129,7 +129,8 @@ def finding_result(finding: Finding, found: Found) -> dict:
     if finding.rule in ALL_RULES:
         result["ruleIndex"] = list(ALL_RULES).index(finding.rule)
     if finding in found.known:
-        result["suppressions"] = [{"kind": "external", "status": "accepted"}]
+        reason = found.reason_of(finding)
+        result["suppressions"] = [dict({"kind": "external", "status": "accepted"}, **({"justification": sarif_text(reason)} if reason else {}))]
     add_steps(result, finding, found.sources)
     if finding.happened:
         result["stacks"] = [stack for thread in finding.happened.threads for stack in stacks_of(thread, finding.happened)]

@@ -17,8 +17,8 @@ from .words import Refusal, visible
 
 STATE = r"(?:hardirq|softirq|SIG[A-Z0-9]+(?:[+-][0-9]+)?:\S*)"  # what comes in: an interrupt, or a signal with its handler
 LINE = re.compile(r"(circle \S+/[0-7] [ES][RN]|double %s|inversion %s \S+/[0-7]) \S+/[0-7]" % (STATE, STATE))
-PATTERN = re.compile(r"(cycle|circle|double|inversion|blocked|order|hold)((?: +(?:class|function|file|signal):\S+)+)")
-FIELD = re.compile(r"(class|function|file|signal):(\S+)")
+FIELD = re.compile(r"(class|module|function|file|signal|verdict):(\S+)")
+PATTERN = re.compile(r"(cycle|circle|double|inversion|blocked|order|hold)((?: +%s)+)" % FIELD.pattern.replace("(", "(?:"))
 UNTIL = re.compile(r"\buntil\b", re.IGNORECASE)
 DATE = re.compile(r"\buntil (\d{4}-\d{2}-\d{2})\s*$", re.IGNORECASE)
 PLACE = re.compile(r"#   ([^ ]+): (made in|any object of|the class object of|\S+) (.+)")
@@ -28,6 +28,7 @@ BEGINS_WITH_LINE = re.compile(LINE.pattern + r"(?!\S)")  # the names in one may 
 WHAT = "the list of known findings"
 NO_FINDING = "%s: line %d is no finding: a line is a circle, double or inversion of a report, a pattern, " \
     "a comment (#), or blank"
+NO_VERDICT = "%s: line %d has a `verdict:` that is none; the verdicts are %s"
 NO_DATE = "%s: line %d has a reason with `until` and no date at its end, such as `until 2027-03-01`"
 CYCLE = "circle"  # as reports have it
 
@@ -50,6 +51,8 @@ EXCUSED = {
 KINDS = list(EXCUSED)  # the strongest first
 STRONGEST = {Kind.ANY: Kind.ENDED, Kind.EITHER: Kind.TIMED}
 VERDICT = {"#   " + words: kind for kind, words in EXCUSED.items()}
+# As a pattern has it, in one word. One that hides what was made to happen says no verdict.
+UP_TO = {words.replace(",", "").replace(" ", "-"): kind for kind, words in EXCUSED.items() if kind is not Kind.HAPPENED}
 
 
 def strength(kind: Kind) -> int:
@@ -67,9 +70,11 @@ class Entry:
     type: str = ""
     fields: list[tuple[str, str]] = field(default_factory=list)
     until: str = ""
+    reason: str = ""
     places: dict[str, Place] = field(default_factory=dict)
     last: str = ""  # the name whose place was read last
     kind: Kind | None = None  # the strongest verdict that a line of a report excuses, if that is known
+    most: Kind | None = None  # the strongest verdict that a pattern hides, if it says one
 
     @property
     def is_pattern(self) -> bool:
@@ -83,12 +88,18 @@ class Entry:
         them isn't known, it may."""
         return None in (self.kind, kind) or strength(kind) >= strength(self.kind)
 
-    def hides(self, type: str, classes: list[tuple[str, ...]], frames: list[tuple[str, str]], signal: str = "") -> bool:
-        """Whether a pattern fits a finding: each of its classes, by one of its names, fits one of the pattern's, if that names any;
-        and a record of the finding comes from such a function and file, and its signal is such a one, if it names these."""
-        of_classes, functions, files, signals = ([pattern for name, pattern in self.fields if name == wanted]
-                                                 for wanted in ("class", "function", "file", "signal"))
+    def hides(self, type: str, classes: list[tuple[str, ...]], frames: list[tuple[str, str]], signal: str = "",
+              modules: list[str] = (), kind: Kind | None = None) -> bool:
+        """Whether a pattern fits a finding: each of its classes, by one of its names, fits one of the pattern's, if that names any,
+        and was made in such a module; a record of the finding comes from such a function and file, its signal is such a one, and
+        its verdict isn't stronger, if it names these. An unknown verdict is no such one, and an unknown module neither."""
+        of_classes, of_modules, functions, files, signals = ([pattern for name, pattern in self.fields if name == wanted]
+                                                             for wanted in ("class", "module", "function", "file", "signal"))
         if self.type != type or signals and not fits_one(signal, signals):
+            return False
+        if self.most and (kind is None or strength(kind) < strength(self.most)):
+            return False
+        if of_modules and not (modules and all(module and fits_one(module, of_modules) for module in modules)):
             return False
         if of_classes and not all(any(fits_one(name, of_classes) for name in names) for names in classes):
             return False
@@ -144,10 +155,20 @@ def entry_of(number: int, text: str, name: str) -> Entry:
     elif pattern:
         entry.type = CYCLE if pattern.group(1) == "cycle" else pattern.group(1)
         entry.fields = FIELD.findall(pattern.group(2))
+        entry.most = most_of(entry, name)
     else:
         raise Refusal(NO_FINDING % (visible(name), number))
-    entry.until = date_of(reason.group(1), name, number) if reason else ""
+    entry.reason = reason.group(1) if reason else ""
+    entry.until = date_of(entry.reason, name, number)
     return entry
+
+
+def most_of(entry: Entry, name: str) -> Kind | None:
+    """The strongest verdict that a pattern hides, if it says one. A word that is none is refused."""
+    words = [word for field_name, word in entry.fields if field_name == "verdict"]
+    if not set(words) <= set(UP_TO):
+        raise Refusal(NO_VERDICT % (visible(name), entry.number, ", ".join(UP_TO)))
+    return min((UP_TO[word] for word in words), key=strength, default=None)
 
 
 def take_comment(entry: Entry, line: str) -> None:

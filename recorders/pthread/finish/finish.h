@@ -172,6 +172,7 @@ bool is_signal(struct arena *a, uint32_t object);
 bool is_left_out(struct arena *a, uint32_t object);
 uint64_t signals(void);
 int *shared_number(struct arena *a, uint32_t object);
+bool has_later_ones(struct arena *a, uint32_t object);
 void forget_shared_numbers(void);
 
 /* ---- joins.c */

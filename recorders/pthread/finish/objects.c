@@ -83,7 +83,7 @@ int key_of_object(struct arena *a, uint32_t process, uint32_t object) {
         return *shared;
     if (shared) {
         key = class_key_of(a, object);
-        return *shared = object_key_of(key, NO_PROCESS, !is_alone(a, o, key));
+        return *shared = object_key_of(key, NO_PROCESS, !is_alone(a, o, key) && !has_later_ones(a, object));
     }
     if (process > count_of(a, RAW_PROCESSES))
         process = 0;

@@ -1,11 +1,13 @@
 /* Locks that processes share. Each process may know such a lock by something else: who initialised it, or only the file that it is in. It
-   has one class in all of them, that of who initialised it if anybody did. */
+   has one class in all of them, that of who initialised it if anybody did. When it is initialised again it is another lock, unless one of the
+   processes didn't know of that. */
 #include "finish.h"
 
 #include <string.h>
 
 struct shared {
     uint64_t device, inode, offset;
+    uint32_t generation; /* 0 of one lock for all of them */
     struct arena *arena;
     uint32_t class;
     int key; /* NO_KEY until it is asked for */
@@ -18,7 +20,7 @@ static size_t shared_count;
 
 /* Memory without a file has the arena and its number there. */
 static struct shared identity_of(struct arena *a, const struct raw_object *o, const struct raw_file *file) {
-    struct shared s = {.device = file->device, .inode = file->inode, .offset = o->offset, .arena = a,
+    struct shared s = {.device = file->device, .inode = file->inode, .offset = o->offset, .generation = o->generation, .arena = a,
                        .class = class_itself(a, o->class), .is_signal = o->is_signal};
     if (file->place) {
         s.device = (uint64_t)(a - arenas);
@@ -28,13 +30,23 @@ static struct shared identity_of(struct arena *a, const struct raw_object *o, co
     return s;
 }
 
-static int by_identity(const void *a, const void *b) {
-    const struct shared *x = a, *y = b;
+static int by_memory(const struct shared *x, const struct shared *y) {
     if (x->device != y->device)
         return x->device < y->device ? -1 : 1;
     if (x->inode != y->inode)
         return x->inode < y->inode ? -1 : 1;
     return x->offset < y->offset ? -1 : x->offset > y->offset;
+}
+
+static int by_identity(const void *a, const void *b) {
+    const struct shared *x = a, *y = b;
+    int memory = by_memory(x, y);
+    return memory ? memory : x->generation < y->generation ? -1 : x->generation > y->generation;
+}
+
+/* Whether the second one, which comes later, is the same lock as the first. */
+static bool is_same(const struct shared *first, const struct shared *s) {
+    return by_memory(first, s) == 0 && (!first->generation || first->generation == s->generation);
 }
 
 static enum class_kind kind_of(const struct shared *s) {
@@ -75,13 +87,15 @@ void find_shared(void) {
     if (shared_count)
         qsort(shared, shared_count, sizeof *shared, by_identity);
     for (size_t i = 0; i < shared_count; i++) {
-        bool is_new = i == 0 || by_identity(&shared[i], &shared[kept - 1]) != 0;
+        bool is_new = i == 0 || !is_same(&shared[kept - 1], &shared[i]);
         bool is_signal = shared[i].is_signal || (!is_new && shared[kept - 1].is_signal);
+        uint32_t generation = shared[is_new ? i : kept - 1].generation;
         if (is_new)
             shared[kept++] = shared[i];
         else if (is_better(&shared[i], &shared[kept - 1]))
             shared[kept - 1] = shared[i];
         shared[kept - 1].is_signal = is_signal;
+        shared[kept - 1].generation = generation;
     }
     shared_count = kept;
 }
@@ -90,8 +104,10 @@ static struct shared *shared_of(struct arena *a, uint32_t object) {
     const struct raw_file *file = file_of(a, object);
     if (!file)
         return NULL;
-    struct shared wanted = identity_of(a, part_of(a, RAW_OBJECTS, object), file);
-    return shared_count ? bsearch(&wanted, shared, shared_count, sizeof *shared, by_identity) : NULL;
+    struct shared wanted = identity_of(a, part_of(a, RAW_OBJECTS, object), file), all = wanted;
+    all.generation = 0;
+    struct shared *found = shared_count ? bsearch(&all, shared, shared_count, sizeof *shared, by_identity) : NULL;
+    return found || !shared_count ? found : bsearch(&wanted, shared, shared_count, sizeof *shared, by_identity);
 }
 
 /* Whether the object is a semaphore that was found to be no lock. */
@@ -129,6 +145,12 @@ int class_key_of(struct arena *a, uint32_t object) {
 int *shared_number(struct arena *a, uint32_t object) {
     struct shared *s = shared_of(a, object);
     return s ? &s->number : NULL;
+}
+
+/* Whether it stands for all later generations of the lock. */
+bool has_later_ones(struct arena *a, uint32_t object) {
+    const struct shared *s = shared_of(a, object);
+    return s && s->generation == RAW_GENERATIONS;
 }
 
 void forget_shared_numbers(void) {

@@ -308,7 +308,7 @@ static int semaphores, streams;
 
 static bool is_left_out(const sem_t *lock) {
     uint32_t object = lock_object((uintptr_t)lock);
-    return object && is_signal(object);
+    return object && is_signal(object) && !is_initialised_since(object);
 }
 
 static void took(const sem_t *lock, uint8_t mode, struct call call) {

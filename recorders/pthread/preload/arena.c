@@ -318,6 +318,31 @@ static struct raw_arena *make_file(const char *folder, uint32_t id, uint64_t all
     return made;
 }
 
+/* What the variable of the environment says may be another thing later. */
+static char *kept_folder;
+
+static void keep_folder(const char *folder) {
+    kept_folder = take_private(length_of(folder) + 1);
+    if (kept_folder)
+        put_text(kept_folder, folder, SIZE_MAX);
+}
+
+void *map_common(const char *name, size_t bytes) {
+    char path[(kept_folder ? length_of(kept_folder) : 0) + length_of(name) + 2];
+    if (!kept_folder)
+        return NULL;
+    char *end = put_text(path, kept_folder, SIZE_MAX);
+    *end++ = '/';
+    put_text(end, name, SIZE_MAX);
+    int saved = errno, file = (int)SYSTEM(openat, AT_FDCWD, path, O_RDWR | O_CREAT | O_CLOEXEC, RIGHTS);
+    bool is_there = file >= 0 && least(allowed_memory(), allowed_on_disk(file)) >= bytes && extend(file, bytes);
+    void *p = is_there ? map_own(bytes, MAP_SHARED, file) : MAP_FAILED;
+    if (file >= 0)
+        SYSTEM(close, file);
+    errno = saved;
+    return p == MAP_FAILED ? NULL : p;
+}
+
 static uint32_t process_id(void) { return (uint32_t)SYSTEM(getpid); }
 
 void say_refused(void) {
@@ -381,6 +406,7 @@ static void begin(void) {
     nearby_used = (uint64_t)((char *)life_page() + PAGE - nearby);
     uint64_t allowed = allowed_memory();
     map_private(allowed);
+    keep_folder(folder);
     uint32_t id = process_id();
     struct raw_arena *made = make_file(folder, id, allowed);
     if (!made)

@@ -65,10 +65,6 @@ static inline void *ready(void **known, const char *name) {
     return LIKELY(real) ? real : make_ready(known, name);
 }
 
-/* Begins a line of the processor's, so that how its code lies in the lines doesn't change with what is before it. That is a fourth of the
-   time of a lock that is taken again. */
-#define LINED_UP __attribute__((aligned(64)))
-
 /* ---- Acquisitions. A call has taken the lock if it returns 0, or if the owner died with a robust mutex held. */
 
 static inline bool took(int answer) { return answer == 0 || answer == EOWNERDEAD; }

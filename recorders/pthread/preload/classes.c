@@ -204,7 +204,7 @@ static uint32_t class_of_lock(uintptr_t lock, struct memory *memory, struct call
 
 /* ---- Objects. */
 
-static uint32_t define_object(uint32_t class, uint32_t ordinal, uint32_t file, uint64_t offset) {
+static uint32_t define_object(uint32_t class, uint32_t ordinal, uint32_t file, uint64_t offset, uint32_t generation) {
     uint32_t number = take_part(RAW_OBJECTS);
     if (!number)
         return 0;
@@ -212,6 +212,7 @@ static uint32_t define_object(uint32_t class, uint32_t ordinal, uint32_t file, u
     object->ordinal = ordinal;
     object->file = file;
     object->offset = offset;
+    object->generation = generation;
     STORE(&object->class, class);
     return number;
 }
@@ -223,24 +224,26 @@ static uint32_t object_numbered(uint32_t class, uint32_t ordinal) {
     if (!kept)
         return 0;
     uint32_t object = LOAD(&kept->objects[ordinal]);
-    return object ? object : settled(&kept->objects[ordinal], define_object(class, ordinal, 0, 0));
+    return object ? object : settled(&kept->objects[ordinal], define_object(class, ordinal, 0, 0, 0));
 }
 
-/* A lock that processes share is an object of its own from the first. */
+/* A lock that processes share is an object of its own from the first, and another one each time that it was initialised. */
 static struct names shared;
 
-static uint32_t object_in_file(uint32_t class, uint32_t file, uint64_t offset) {
-    uint32_t *slot = added_slot(&shared, mixed(mixed(mixed(offset) + file) + class));
+static uint32_t object_in_file(uint32_t class, uint32_t file, uint64_t offset, uint32_t generation) {
+    uint32_t *slot = added_slot(&shared, mixed(mixed(mixed(mixed(offset) + file) + class) + generation));
     uint32_t object = slot ? LOAD(slot) : 0;
-    return object || !slot ? object : settled(slot, define_object(class, RAW_SHARED, file, offset));
+    return object || !slot ? object : settled(slot, define_object(class, RAW_SHARED, file, offset, generation));
 }
 
-/* Of a lock that isn't known. */
-static uint32_t new_object(uintptr_t lock, uint32_t class) {
+/* Of a lock that isn't known, or has just been initialised. */
+static uint32_t new_object(uintptr_t lock, uint32_t class, bool is_initialised) {
     uint32_t file, object = 0;
     uint64_t offset;
-    if (class)
-        object = find_shared(lock, &file, &offset) ? object_in_file(class, file, offset) : object_numbered(class, 0);
+    if (class && find_shared(lock, &file, &offset))
+        object = object_in_file(class, file, offset, is_initialised ? next_generation(file, offset) : generation_of(file, offset));
+    else if (class)
+        object = object_numbered(class, 0);
     return object ? add_lock(lock, object) : 0;
 }
 
@@ -255,6 +258,24 @@ static bool is_outdated(uintptr_t lock, uint32_t object, struct call call) {
     if (LIKELY(class->kind < CLASS_STACK) || !class->word || !is_on_stack(lock, call))
         return false;
     return frame_with(lock, call, &function, &offset) && (function != class->word || offset != class->offset);
+}
+
+/* Whether any process has initialised a lock that processes share since it is known as this object. Files that are locked themselves aren't
+   initialised. */
+bool is_initialised_since(uint32_t object) {
+    const struct raw_object *o = part_of(RAW_OBJECTS, object);
+    const struct raw_class *class = part_of(RAW_CLASSES, o->class);
+    if (LIKELY(o->ordinal != RAW_SHARED) || (class->kind == CLASS_FILE && class->offset == RAW_WHOLE_FILE))
+        return false;
+    return generation_of(o->file, o->offset) != o->generation;
+}
+
+/* What the program says of it stays; else it is known by where it is, until it is known who has initialised it. */
+static uint32_t object_now(uintptr_t lock, uint32_t object) {
+    const struct raw_object *o = part_of(RAW_OBJECTS, object);
+    uint32_t class = is_said(kind_of(o->class)) ? o->class : class_in_file(o->file, o->offset);
+    drop_lock(lock);
+    return new_object(lock, class, false);
 }
 
 /* Whether the lock ends with this thread. */
@@ -273,7 +294,7 @@ static void look_once(uint32_t number, uintptr_t lock, const struct memory *memo
 uint32_t object_of_lock(uintptr_t lock, struct call call) {
     uint32_t object = lock_object(lock);
     if (LIKELY(object && !is_outdated(lock, object, call)))
-        return object;
+        return RARELY(is_initialised_since(object)) ? object_now(lock, object) : object;
     if (object)
         drop_lock(lock);
     struct memory memory;
@@ -281,7 +302,7 @@ uint32_t object_of_lock(uintptr_t lock, struct call call) {
     look_once(class, lock, &memory, call);
     if (is_own(lock, class, call))
         note_own_lock(lock);
-    return new_object(lock, class);
+    return new_object(lock, class, false);
 }
 
 /* The smallest ordinal that no object of the class has had, or 0. */
@@ -326,7 +347,7 @@ bool is_single(uint32_t object) {
 /* Whether a lock stays this object as long as the table of locks says so, wherever it is taken. */
 bool is_lasting(uint32_t object, bool is_nested) {
     uint32_t class = class_of(object);
-    if (kind_of(class) == CLASS_STACK)
+    if (kind_of(class) == CLASS_STACK || ordinal_of(object) == RAW_SHARED)
         return false;
     if (!is_nested || is_single(object))
         return true;
@@ -358,7 +379,7 @@ bool know_by_place(uintptr_t lock, struct call call) {
     if (place)
         class = known_class((struct raw_class){.kind = CLASS_INIT, .place = place});
     look_once(class, lock, &memory, call);
-    uint32_t object = new_object(lock, class);
+    uint32_t object = new_object(lock, class, true);
     return object && ordinal_of(object) != RAW_SHARED;
 }
 
@@ -377,7 +398,7 @@ void know_by_text(uintptr_t lock, enum class_kind kind, uint32_t text, struct ca
     if (!class || class == before)
         return;
     drop_lock(lock);
-    new_object(lock, class);
+    new_object(lock, class, false);
 }
 
 /* Why the program ignores the lock, as the number of a text; 0 if it doesn't. */
@@ -396,14 +417,14 @@ uint32_t object_of_subclass(uintptr_t lock, uint32_t object, uint32_t subclass) 
         return known ? known : itself;
     const struct raw_object *o = part_of(RAW_OBJECTS, itself);
     uint32_t class = known_class((struct raw_class){.kind = CLASS_NESTED, .place = o->class, .offset = subclass});
-    uint32_t made = class ? settled(slot, define_object(class, o->ordinal, o->file, o->file ? o->offset : itself)) : 0;
+    uint32_t made = class ? settled(slot, define_object(class, o->ordinal, o->file, o->file ? o->offset : itself, o->generation)) : 0;
     return made ? made : itself;
 }
 
 /* A lock of a file, of which a class is all of it. */
 void know_by_file(uintptr_t lock, uint32_t file, uint64_t offset) {
     uint32_t class = known_class((struct raw_class){.kind = CLASS_FILE, .place = file, .offset = RAW_WHOLE_FILE});
-    uint32_t object = class ? object_in_file(class, file, offset) : 0;
+    uint32_t object = class ? object_in_file(class, file, offset, 0) : 0;
     if (object)
         add_lock(lock, object);
 }

@@ -400,7 +400,7 @@ static inline void *noted(void *piece, size_t size, struct call call) {
 /* ---- malloc and its like. */
 
 /* All of it in one function, since programs call it more than anything else. */
-EXPORT __attribute__((flatten)) void *malloc(size_t size) {
+LINED_UP EXPORT __attribute__((flatten)) void *malloc(size_t size) {
     if (!resolved())
         return early_memory(size);
     uint64_t element = asked_element(size);
@@ -428,7 +428,7 @@ EXPORT void *calloc(size_t count, size_t size) {
 
 static inline uint64_t taken_if_noted(void *piece) { return arena && piece ? taken_piece((uintptr_t)piece) : 0; }
 
-EXPORT void free(void *piece) {
+LINED_UP EXPORT void free(void *piece) {
     if (RARELY(is_early(piece)) || !resolved_for(piece ? HERE : NO_CALL))
         return;
     uint64_t about = taken_if_noted(piece);

@@ -23,6 +23,8 @@ void *map_own(size_t bytes, int how, int file) {
     return REAL(mmap)(NULL, bytes, PROT_READ | PROT_WRITE, how, file, 0);
 }
 
+void unmap_own(void *from, size_t bytes) { REAL(munmap)(from, bytes); }
+
 /* ---- Files. */
 
 static struct names files;
@@ -100,6 +102,7 @@ static struct region {
 static uint32_t region_count; /* so many were ever in use at once */
 
 static void put_region(uintptr_t from, uintptr_t to, uint32_t file, uint64_t offset) {
+    begin_generations();
     for (uint32_t i = 0; i < REGIONS; i++) {
         uint32_t none = 0;
         if (LOAD(&regions[i].is_taken) || !SWAP(&regions[i].is_taken, &none, 1))

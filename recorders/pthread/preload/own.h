@@ -41,6 +41,9 @@
 #define UNROLLED _Pragma("GCC unroll 8")
 /* Keeps a loop from being made a call of the C library's, which would have to be found first. */
 #define AS_WRITTEN __asm__ volatile("")
+/* Begins a line of the processor's, so that how its code lies in the lines doesn't change with what is before it. That is a fourth of the
+   time of a lock that is taken again. */
+#define LINED_UP __attribute__((aligned(64)))
 #define QUICK static inline __attribute__((always_inline)) /* a step of the way that calls go which bring nothing new */
 #define EARLY_THREAD_LOCAL __thread __attribute__((tls_model("initial-exec")))
 
@@ -105,7 +108,7 @@ struct raw_record *take_chunk(uint32_t chunk);
 void *take_private(size_t bytes); /* zeroed memory that is never given back, or NULL */
 void *take_spare(size_t bytes); /* the same, for a large table that can be done without */
 void *take_table(size_t bytes); /* the same, for one that can't */
-
+void *map_common(const char *name, size_t bytes); /* a file of the folder, which all processes of the recording map; NULL: it can't be had */
 
 /* ---- tables.c */
 
@@ -246,9 +249,16 @@ struct memory { /* the piece that a lock is in */
 };
 bool find_memory(uintptr_t lock, struct memory *memory);
 
+/* ---- generations.c: of a lock that processes share */
+
+void begin_generations(void); /* the process has mapped such memory */
+uint32_t generation_of(uint32_t file, uint64_t offset);
+uint32_t next_generation(uint32_t file, uint64_t offset); /* when it has just been initialised */
+
 /* ---- mapped.c */
 
 void *map_own(size_t bytes, int how, int file);
+void unmap_own(void *from, size_t bytes);
 uint32_t file_of(int descriptor);
 bool find_shared(uintptr_t lock, uint32_t *file, uint64_t *offset);
 void note_shared_before(void); /* what was mapped before the recording began */
@@ -316,6 +326,7 @@ static inline uint32_t class_of(uint32_t object) { return ((struct raw_object *)
 /* Whether the object is a semaphore that was found to be no lock. */
 static inline bool is_signal(uint32_t object) { return LOAD(&((struct raw_object *)part_of(RAW_OBJECTS, object))->is_signal); }
 bool is_single(uint32_t object);
+bool is_initialised_since(uint32_t object); /* the lock isn't this object any more */
 bool is_lasting(uint32_t object, bool is_nested);
 const uint8_t *looks_left_at(uint32_t class);
 bool is_mapped_place(uint32_t place);
