@@ -48,6 +48,7 @@ ADVICE: dict[str, str] = {
     "bound-libraries": "load them without RTLD_DEEPBIND, or record it once more, with --recorder pthread",
     "other-pthreads": "record it once more, with --recorder pthread",
     "parking-lot": "take these locks from the crate lockdep_record, or look at them by hand",
+    "std-locks": "take these locks from the crate lockdep_record, or look at them by hand",
     "unread-files": "let the program write its traces as task-0001.csv and so on",
     "beyond-events": "record a shorter run, or end a task by ldr_end and begin another one",
     "refused-words": "give names of 1 to 64 bytes, subclasses from 0 to 7, and the modes of lockdep_record.h",

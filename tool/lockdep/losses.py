@@ -158,6 +158,7 @@ COUNTS: dict[str, tuple[str, ...]] = {  # several sentences if recorders count d
     "library-traces": ("recordings of locks of C libraries that have no traces here, as where there are too many: these weren't looked at",),
     "bound-libraries": ("libraries bound to themselves first, by RTLD_DEEPBIND: their locks aren't seen",),
     "parking-lot": ("programs with locks of the crate parking_lot, which were not looked at",),
+    "std-locks": ("crates with locks of the standard library itself, which were not looked at",),
     "unread-files": ("files beside the traces that were not read",),
     "beyond-events": ("calls after 1,000,000 events of a task",),
     "refused-words": ("acquisitions with a name, a subclass or a mode that the format does not have",),
@@ -196,6 +197,7 @@ NOTES: dict[str, tuple[str, ...]] = {
     "library-threads": ("threads that took locks of C libraries: they have traces of their own for these",),
     "passed-programs": ("programs with locks that are not those of pthreads",),
     "passed-parking-lot": ("programs with locks of the crate parking_lot, which were not looked at",),
+    "passed-std-locks": ("crates with locks of the standard library itself, which were not looked at",),
     "passed-libraries": ("libraries with locks that are not those of pthreads, which were not looked at",),
     "passed-pthreads": ("files with locks of pthreads, which were not looked at",),
 }
