@@ -37,7 +37,7 @@ ADVICE: dict[str, str] = {
     "gevent": "record a run with threads in place of greenlets, or look at its other locks by hand",
     "eventlet": "record a run with threads in place of greenlets, or look at its other locks by hand",
     "library-only": "record a run in which the program takes locks of its own",
-    "unreached-runs": "link these dynamically, and start them with LD_PRELOAD as it is and without other rights",
+    "unreached-runs": "link these dynamically, and start them with the environment as it is, without other rights, and without Python's -I, -E and -S",
     "pthread-runs": ALONE + ", with --recorder pthread",
     "other-runs": ALONE,
     "rust-programs": "build these with the crate lockdep_record and `--cfg lockdep`",

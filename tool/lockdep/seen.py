@@ -102,7 +102,7 @@ OTHERS = ("other-programs", "passed-programs")
 
 # What is said before the lines that stand under a count, and what behind them: (codes, before, the code that needs it, behind).
 LISTS: tuple[tuple[tuple[str, ...], str, str, str], ...] = (
-    (("unreached-runs",), "the recorder isn't loaded into these, %sthem:" % SAYS_NOTHING, "", ""),
+    (("unreached-runs",), "the recorder isn't loaded into these, %stheir own locks:" % SAYS_NOTHING, "", ""),
     (("rust-programs",), "no lock of Rust was seen in these, so a report of this recording says nothing of such locks:", "", ""),
     (OTHERS, "these have other locks than those of pthreads, and a report of this recording says nothing of them:", "other-programs",
      "if these don't matter, as tools of a build, `--recorder pthread` has the rest judged"),
