@@ -5,9 +5,10 @@
    of these and the program itself calls no function of a pthread lock, `no-pthread-import`. Of a script the interpreter is
    looked at. With --each it writes lines `WORD<tab>FILE`, for programs and libraries: `go`, `libpython`, `libjvm`, a word of another
    runtime with locks of its own, as `mono`, `embed` if there is the code of lockdep_record.h in it, `openmp` if it takes a lock of
-   OpenMP, `glib` if it takes a mutex of GLib, `semaphore` if it waits for semaphores, `futex` if it waits by futexes itself,
-   `sanitizer` if it is built with one that has an allocator of its own, or is the library of one, and `pthread` if it calls such a
-   function. With --all it writes both: what is said of FILE alone stands in lines `program WORD<tab>FILE`. */
+   OpenMP, `glib` if it takes a mutex of GLib, `python-lock` if it takes a lock of Python's C API, `semaphore` if it waits for
+   semaphores, `futex` if it waits by futexes itself, `sanitizer` if it is built with one that has an allocator of its own, or is the
+   library of one, and `pthread` if it calls such a function. With --all it writes both: what is said of FILE alone stands in lines
+   `program WORD<tab>FILE`. */
 #define _GNU_SOURCE
 #include <elf.h>
 #include <fcntl.h>
@@ -153,11 +154,13 @@ static bool begins_with(const char *text, const char *start) { return strncmp(te
 #define MOST_STARTS 8
 
 /* How the names begin of functions that take locks: those of pthreads and C11, those of OpenMP, the last three of which the compilers
-   call for a critical section, those of GLib's mutexes, which wait by futexes, and those that wait for a semaphore. */
+   call for a critical section, those of GLib's mutexes, which wait by futexes, those of Python's C API, and those that wait for a
+   semaphore. */
 static const char *const starts_of_pthreads[MOST_STARTS] = {"pthread_mutex_", "pthread_rwlock_", "pthread_spin_", "mtx_", "pthread_once"};
 static const char *const starts_of_openmp[MOST_STARTS] = {"omp_set_lock", "omp_test_lock", "omp_set_nest_lock", "omp_test_nest_lock",
                                                           "GOMP_critical_start", "GOMP_critical_name_start", "__kmpc_critical"};
 static const char *const starts_of_glib[MOST_STARTS] = {"g_mutex_lock", "g_mutex_trylock"};
+static const char *const starts_of_python[MOST_STARTS] = {"PyThread_acquire_lock", "PyMutex_Lock"};
 static const char *const starts_of_semaphores[MOST_STARTS] = {"sem_wait", "sem_trywait", "sem_timedwait", "sem_clockwait"};
 
 static bool begins_with_any(const char *name, const char *const starts[MOST_STARTS]) {
@@ -351,6 +354,7 @@ static void look_at_each(const char *name) {
         say_of(has(&file, "ldr1 lockdep,2\n"), "embed", name);
         say_of(calls_any(&symbols, starts_of_openmp), "openmp", name);
         say_of(calls_any(&symbols, starts_of_glib), "glib", name);
+        say_of(calls_any(&symbols, starts_of_python), "python-lock", name);
         say_of(calls_any(&symbols, starts_of_semaphores), "semaphore", name);
         say_of(waits_by_futex(&file, &symbols, &all), "futex", name);
         say_of(has_sanitizer(&file, &symbols), "sanitizer", name);

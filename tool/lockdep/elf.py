@@ -1,9 +1,10 @@
-"""Which addresses of a module lie within a function's symbol: the symbol tables of a 64-bit ELF file, by their sizes."""
+"""What a 64-bit ELF file has: its sections, its functions by their symbols, and which addresses lie within one."""
 from __future__ import annotations
 
 import struct
 from bisect import bisect_left
-from typing import BinaryIO, Iterator
+from itertools import chain
+from typing import BinaryIO, Iterator, NamedTuple
 
 from .files import is_file
 from .words import bytes_of
@@ -18,29 +19,53 @@ MOST_OF_TABLE = 1 << 28  # bytes
 UNDEFINED = 0
 
 
-def tables_of(file: BinaryIO) -> Iterator[bytes]:
-    """The symbol tables of a file."""
+class Section(NamedTuple):
+    """A section of a file."""
+
+    name: int
+    kind: int
+    flags: int
+    address: int
+    offset: int
+    size: int
+    link: int
+    info: int
+    alignment: int
+    of_entry: int
+
+    def content(self, file: BinaryIO) -> bytes:
+        file.seek(self.offset)
+        return file.read(min(self.size, MOST_OF_TABLE))
+
+
+def machine_and_sections(file: BinaryIO) -> tuple[int, list[Section]]:
+    """The number of a file's machine, and the file's sections."""
     head = file.read(HEADER.size)
     if not head.startswith(MAGIC):
-        return
-    _, _, _, _, _, offset, _, _, _, _, size, count, _ = HEADER.unpack(head)
+        return 0, []
+    _, machine, _, _, _, offset, _, _, _, _, size, count, _ = HEADER.unpack(head)
     if size != SECTION.size:
-        return
+        return machine, []
     file.seek(offset)
     sections = file.read(size * count)
-    for section in SECTION.iter_unpack(sections[:len(sections) - len(sections) % size]):
-        if section[1] in TABLES:
-            file.seek(section[4])
-            yield file.read(min(section[5], MOST_OF_TABLE))
+    return machine, [Section(*words) for words in SECTION.iter_unpack(sections[:len(sections) - len(sections) % size])]
+
+
+def whole_entries(table: bytes, entry: struct.Struct) -> Iterator[tuple[int, ...]]:
+    return entry.iter_unpack(table[:len(table) - len(table) % entry.size])
+
+
+def is_function(info: int, section: int) -> bool:
+    return info & 15 in FUNCTIONS and section != UNDEFINED
 
 
 def functions_of(module: str) -> Iterator[tuple[int, int]]:
     """The first and the last address, exclusive, of each function that a module names."""
     with open(bytes_of(module), "rb") as file:
-        for table in tables_of(file):
-            for _, info, _, section, value, size in SYMBOL.iter_unpack(table[:len(table) - len(table) % SYMBOL.size]):
-                if info & 15 in FUNCTIONS and section != UNDEFINED and size:
-                    yield value, value + size
+        tables = [section.content(file) for section in machine_and_sections(file)[1] if section.kind in TABLES]
+        for _, info, _, section, value, size in chain.from_iterable(whole_entries(table, SYMBOL) for table in tables):
+            if is_function(info, section) and size:
+                yield value, value + size
 
 
 def within_functions(module: str, addresses: list[int]) -> set[int]:

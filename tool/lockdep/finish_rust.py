@@ -10,8 +10,8 @@ from .joins import THREAD, Joins
 
 TYPE_CHECKING = False  # for a tool that checks types, it is true
 if TYPE_CHECKING:
-    from typing import Callable, Iterator
-    from .summary import File, Summary
+    from typing import Iterator
+    from .summary import Summary
 
 TARGET = "/target/"  # the folder of a package that Cargo builds in
 MOST_PARTS = 20  # of a path, which tell packages apart
@@ -232,9 +232,7 @@ def finish(path: str, raw: str) -> Summary:
     return making.summary(list(processes.values()))
 
 
-def programs_with(raw: str, is_so: Callable[[str], bool]) -> list[File]:
-    """The programs that were recorded of which something is so."""
-    from .summary import File
+def programs(raw: str) -> list[str]:
+    """The programs that were recorded."""
     _, names = found_in(raw, "")
-    found = dict.fromkeys(Process(raw, name).program for name in names)
-    return [File(program) for program in found if program and is_so(program)]
+    return [program for program in dict.fromkeys(Process(raw, name).program for name in names) if program]

@@ -22,7 +22,7 @@ RIGHTS = 0o1777  # a program may give up its rights before it loads a library
 TASK = re.compile(r"\btask-([0-9]{4,})\b")
 BESIDE = (TASKS, LIVES, WEAK, "breaches")  # files whose lines name traces
 OF_THREADS = "library-threads"
-OTHER_LOCKS = ("openmp", "go")  # kinds of locks of libraries that aren't recorded
+OTHER_LOCKS = ("openmp", "go", "python-lock")  # kinds of locks of libraries that aren't recorded
 RENAMED = {"threads": OF_THREADS, "deep-binding": "bound-libraries"}  # codes that mean something else here
 APART = ("processes", "at-exit")  # are no sums: the first is counted by the program's own recorder
 
@@ -79,15 +79,19 @@ def preload(home: str, folder: Folder) -> str | None:
 # ---- The end.
 
 def note_others(home: str, summary: Summary, paths: list[str], is_passed: bool) -> None:
-    """Counts the libraries with locks that no recorder of this run sees. They count as left out unless the recorder was named."""
+    """Counts the libraries with locks that no recorder of this run sees. They count as left out unless the recorder was named. Those that wait by
+    futexes themselves are a note, as with the recorder of pthreads."""
     if not paths:
         return
     try:
         look = os.path.join(recorder_folder(home, needs_compiler=False), "look")
     except Refusal:
         return
-    found = [File(path, None, kind) for kind, path in Files(look, paths).kinds(paths) if kind in OTHER_LOCKS]
+    files = Files(look, paths)
+    found = [File(path, None, kind) for kind, path in files.kinds(paths) if kind in OTHER_LOCKS]
     summary.add("passed-libraries" if is_passed else "other-libraries", found)
+    waiting = [path for kind, path in files.kinds(paths) if kind == "futex" and "rust" not in files.program(path)]
+    summary.add("futex-files", [File(path) for path in waiting])
 
 
 def add_traces(home: str, path: str, raw: str, summary: Summary) -> None:

@@ -8,6 +8,7 @@ REASONS: dict[str, str] = {
     "not-run": "the command couldn't be run",
     "embed": "it contains lockdep_record.h, whose locks are seen by `lockdep run --recorder embed`",
     "openmp": "it takes locks of OpenMP, which are not those of pthreads",
+    "python-lock": "it takes locks of Python's C API, by PyThread_acquire_lock or PyMutex_Lock",
     "static": "it is linked statically, so nothing can be preloaded into it",
     "setuid": "it is set-user-id or has capabilities, so the loader preloads nothing into it",
     "other-machine": "it is a program of another word size or machine than the recorder",
@@ -147,7 +148,8 @@ COUNTS: dict[str, tuple[str, ...]] = {  # several sentences if recorders count d
     "gevent": ("processes with gevent: only those of its locks that take the place of threading's were looked at",),
     "eventlet": ("processes with eventlet: only those of its locks that take the place of threading's were looked at",),
     "library-only": ("classes of the standard library alone: it makes and takes these locks for itself",),
-    "unreached-runs": ("runs of programs that the recorder isn't loaded into: nothing of them was recorded",),
+    "unreached-runs": ("runs of programs that the recorder isn't loaded into: nothing of them was recorded",
+                       "runs of programs that the recorder isn't loaded into: none of their own locks was recorded"),
     "pthread-runs": ("runs of programs that call locks of pthreads: these weren't looked at",),
     "other-runs": ("runs of programs with locks that this recorder doesn't see: these weren't looked at",),
     "rust-programs": ("programs in Rust that ran without being recorded: none of the locks of Rust in them was seen",),
@@ -158,6 +160,7 @@ COUNTS: dict[str, tuple[str, ...]] = {  # several sentences if recorders count d
     "library-traces": ("recordings of locks of C libraries that have no traces here, as where there are too many: these weren't looked at",),
     "bound-libraries": ("libraries bound to themselves first, by RTLD_DEEPBIND: their locks aren't seen",),
     "parking-lot": ("programs with locks of the crate parking_lot, which were not looked at",),
+    "std-locks": ("crates with locks of the standard library itself, which were not looked at",),
     "unread-files": ("files beside the traces that were not read",),
     "beyond-events": ("calls after 1,000,000 events of a task",),
     "refused-words": ("acquisitions with a name, a subclass or a mode that the format does not have",),
@@ -196,6 +199,7 @@ NOTES: dict[str, tuple[str, ...]] = {
     "library-threads": ("threads that took locks of C libraries: they have traces of their own for these",),
     "passed-programs": ("programs with locks that are not those of pthreads",),
     "passed-parking-lot": ("programs with locks of the crate parking_lot, which were not looked at",),
+    "passed-std-locks": ("crates with locks of the standard library itself, which were not looked at",),
     "passed-libraries": ("libraries with locks that are not those of pthreads, which were not looked at",),
     "passed-pthreads": ("files with locks of pthreads, which were not looked at",),
 }
@@ -206,7 +210,7 @@ UNLOST = RECORDED + BREACHES + tuple(NOTES) + ("objects", "calls seen", "repeats
 
 # Which of several sentences a recorder means, if it isn't the first.
 SENTENCES = {
-    "python": {"reentered": 1, "unfollowed-handlers": 1, "threads-alike": 1},
+    "python": {"reentered": 1, "unfollowed-handlers": 1, "threads-alike": 1, "unreached-runs": 1},
     "java": {"reentered": 1, "threads-alike": 1},
     "rust": {"beyond-traces": 1, "reentered": 2, "unseen-releases": 1, "threads-alike": 2},
     "go": {"beyond-traces": 1, "unseen-releases": 2},

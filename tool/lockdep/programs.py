@@ -17,7 +17,7 @@ RUST_TOOLS = frozenset("cargo rustc rustdoc rustup rustfmt clippy-driver sccache
 
 SYSTEM = ("/bin/", "/sbin/", "/lib/", "/lib32/", "/lib64/", "/libx32/", "/usr/bin/", "/usr/sbin/", "/usr/lib/", "/usr/lib32/", "/usr/lib64/", "/usr/libx32/",
           "/usr/libexec/")  # whose programs aren't a program's own
-COMMON = ("pthread", "semaphore", "futex")  # kinds of locks that a program of any language may have
+COMMON = ("pthread", "semaphore", "futex", "python-lock")  # kinds of locks that a program of any language may have, and a part of Python
 OF_LIBRARIES = ("openmp", "glib")  # kinds of locks that are a library's own, whichever program loads it
 
 

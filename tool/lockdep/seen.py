@@ -102,12 +102,14 @@ OTHERS = ("other-programs", "passed-programs")
 
 # What is said before the lines that stand under a count, and what behind them: (codes, before, the code that needs it, behind).
 LISTS: tuple[tuple[tuple[str, ...], str, str, str], ...] = (
-    (("unreached-runs",), "the recorder isn't loaded into these, %sthem:" % SAYS_NOTHING, "", ""),
+    (("unreached-runs",), "the recorder isn't loaded into these, %stheir own locks:" % SAYS_NOTHING, "", ""),
     (("rust-programs",), "no lock of Rust was seen in these, so a report of this recording says nothing of such locks:", "", ""),
     (OTHERS, "these have other locks than those of pthreads, and a report of this recording says nothing of them:", "other-programs",
      "if these don't matter, as tools of a build, `--recorder pthread` has the rest judged"),
     (("sanitizer-programs",), "not everything is seen in these:", "", ""),
     (("parking-lot", "passed-parking-lot"), "locks of parking_lot weren't looked at, and no recorder sees them. These programs have some:", "parking-lot",
+     "if these don't matter, `--recorder rust` has the rest judged"),
+    (("std-locks", "passed-std-locks"), "locks of the standard library itself weren't looked at. These crates take some:", "std-locks",
      "if these don't matter, `--recorder rust` has the rest judged"),
     (("other-libraries", "passed-libraries"), "these libraries have other locks than those of pthreads, and a report of this recording says nothing of them:",
      "other-libraries", "if these don't matter, name the recorder of the program's own locks by --recorder, and the rest is judged"),

@@ -5,7 +5,7 @@ import os
 import re
 from dataclasses import dataclass
 
-from .checker import other_answer
+from .checker import PATIENCE, other_answer
 from .cplusplus import short_function
 from .files import is_file
 from .words import CALLED_FROM, bytes_of, text_of
@@ -106,12 +106,12 @@ class Symbols:
             shown = "%s+%x" % (os.path.basename(place.module), place.offset)
             self.wanted.setdefault(place.module, {})[place.looked_up] = shown
 
-    def ask(self) -> None:
+    def ask(self, patience: int = PATIENCE) -> None:
         for module, addresses in self.wanted.items():
             said = None
             if is_file(module):
                 words = ["addr2line", "-a", "-i", "-f", "-C", b"--exe=" + bytes_of(module)]
-                said = other_answer(words, "".join("0x%x\n" % address for address in addresses).encode())
+                said = other_answer(words, "".join("0x%x\n" % address for address in addresses).encode(), patience)
             self.take(module, addresses, text_of(said or b"").split("\n"))
             self.drop_nearest(module, addresses)
 

@@ -70,6 +70,7 @@ class Process:
         self.classes, self.keys, self.places, self.tasks, self.counts = {}, {}, {}, {}, {}
         self.words, self.starts, self.joins, self.libraries = None, [], None, []
         self.sources, self.runs, self.reentrant, self.lines = {}, {}, set(), 0
+        self.is_inner = False  # an interpreter beside the main one of a process, which is counted
 
     def read(self, path):
         if os.path.exists(path + ".lost") or not os.path.getsize(path):
@@ -100,7 +101,8 @@ class Process:
         self.lines += 1
         kind, _, rest = line.partition(" ")
         if kind == "process":
-            self.pid, self.began = map(int, rest.split()[:2])
+            words = rest.split()
+            self.pid, self.began, self.is_inner = int(words[0]), int(words[1]), words[2:] == ["inner"]
         elif kind == "C":
             number, name, place, what = rest.split("\t")
             self.classes[int(number)] = self.names.class_of(name, place, what)
@@ -410,7 +412,7 @@ def write_traces(raw, folder, recorder, is_chosen):
         tally.add("still-running", finishing.is_running(process.pid))
     of_signals = write_all(folder, names, processes, tally)
     started = [start for process in processes for start in process.starts]
-    counts = tally.recorded(len(processes), len(names.used)) + tally.counts(summaries.NOTED) + why_nothing(recorder, tally, processes, names.used)
+    counts = tally.recorded(len([process for process in processes if not process.is_inner]), len(names.used)) + tally.counts(summaries.NOTED) + why_nothing(recorder, tally, processes, names.used)
     counts += count_of("unreached-runs", unreached(processes))
     counts += count_of("pthread-runs", [start for start in started if start.kind == starts.PTHREAD], not is_chosen, {})
     counts += count_of("other-runs", [start for start in started if start.kind in OTHERS], not is_chosen)

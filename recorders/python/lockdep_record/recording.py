@@ -5,7 +5,8 @@ to the locks that were held at its start, and takes nothing in a way in which it
 held locks and the new one, in their order; it is a node of a tree, of which each task has its own.
 
 What no task of the process had done before is written at once, so that nothing is missing if a signal ends the process. The file
-is opened for each write, so that the program has no open file that it doesn't know about. Its lines:
+is opened for each write, so that the program has no open file that it doesn't know about. Its first line is `process`, with its id, the
+time, and `inner` if this is an interpreter beside the main one of a process, which has a file of its own. Its other lines:
 
     C class name place kind      K key class number     P place text        a class, a lock, where a record comes from
     A task code place            R task code place      records: an acquisition, a release. A code is 8 * key + a mode
@@ -30,6 +31,7 @@ import os
 import sys
 os.register_at_fork(after_in_child=lambda: begin_in_child())  # before that of threading
 import threading  # noqa: E402
+from _signal import signal as set_handler
 from _thread import get_ident
 from collections import deque
 from itertools import count as counting
@@ -986,7 +988,7 @@ class Process:
         self.path, self.is_off = self.path_of(number), is_left_out
         if is_left_out:
             return
-        put_bytes(self, b"process %d %d\n" % (self.pid, time_ns()))
+        put_bytes(self, b"process %d %d%s\n" % (self.pid, time_ns(), b" inner" if number and is_inner() else b""))
         try:
             os.chmod(self.path, 0o666)  # a program may drop its privileges
         except OSError:
@@ -999,6 +1001,16 @@ class Process:
         """Notes whether this Python runs without its global lock. A module that it loads may turn that on."""
         if has_global_lock is not None and not has_global_lock():
             self.counts["unguarded"] = 1
+
+
+def is_inner():
+    """Whether this is an interpreter beside the main one of its process: only that one may set handlers of signals, and would refuse this one."""
+    try:
+        set_handler(1, None)
+    except ValueError:
+        return True
+    except TypeError:
+        return False
 
 
 has_global_lock = getattr(sys, "_is_gil_enabled", None)  # (since Python 3.13; the recorder's own tables rely on it)
