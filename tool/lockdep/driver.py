@@ -132,7 +132,7 @@ def start_record(home: str, line: Words) -> int:
     if recorder.script:
         script = os.path.join(home, "recorders", recorder.script)
         recording.pass_on_signals(recorder, line.last("--signals"))
-        become([sys.executable, script, "-o", recording.checked(folder), "--either"] + line.rest, os.environ)
+        become([sys.executable, "-I", "-S", script, "-o", recording.checked(folder), "--either"] + line.rest, os.environ)
     wishes = recording.Wishes(folder, recorder, line.has("--recorder"), line.last("--frames"), "1" if line.has("--version-1") else "2",
                               not line.has("--no-wait"), line.last("--signals"))
     recording.begin(home, wishes, line.rest, os.path.join(home, "recorders", "pthread", "record"))

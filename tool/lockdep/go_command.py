@@ -1,7 +1,6 @@
 """The command go, which builds programs that are recorded: it takes changed files of the standard library, by -overlay in GOFLAGS."""
 from __future__ import annotations
 
-import json
 import os
 import sys
 
@@ -38,6 +37,7 @@ def environment(home: str, go: str, words: list[str]) -> dict[str, str]:
     """What the command go has to find in its environment, so that what it builds is recorded."""
     if is_go(words[0]) and any(word.lstrip("-").split("=")[0] == "overlay" and word[:1] == "-" for word in words[1:]):
         raise Refusal("go is given -overlay, by which the recorder of Go has its own files taken")
+    import json
     status, told = output_of([go, "env", "-json", *SETTINGS])
     try:
         settings = json.loads(told) if status == 0 else {}

@@ -46,6 +46,7 @@ MOST_EARLY = 8  # so many locks of a class have names of their own before they a
 LATELY, MOST_BROKEN_OFF = 2, 16
 
 getframe = sys._getframe
+Frame = type(getframe())
 here = threading.local()
 find_loop = find_task = None  # of asyncio, once it is loaded
 find_greenlet = None  # the running one, once greenlets are loaded
@@ -56,6 +57,9 @@ write_bytes, open_file, close_file = os.write, os.open, os.close  # eventlet put
 # ---- Where something is in the source.
 
 PLAIN, LIBRARY, PASSED = 0, 1, 2
+MOST_PASSED = 16  # frames of the library are gone through to find the program's
+WITH = "BEFORE_WITH", "SETUP_WITH"  # the instructions that call `__enter__`
+SUSPENDED = 0x2a0  # the flags of code that may wait in the middle: generators and coroutines
 own_folder = os.path.dirname(os.path.abspath(__file__))
 library_folder = os.path.dirname(os.path.abspath(os.__file__)) + os.sep
 passed_files = [threading.__file__, library_folder + os.path.join("asyncio", "locks.py"),
@@ -96,20 +100,50 @@ def is_library_own(chain):
 
 
 def chain_of(frame):
-    """The frames of a place, innermost first: up to the first one of the program, each as its code and instruction."""
-    chain = []
-    while frame is not None and len(chain) < 16:
-        code = frame.f_code
-        name = code.co_filename
+    """The frames of a place, each as its code and instruction: the innermost one, and the first one of the program, if that is another."""
+    inner = outer = None
+    left = MOST_PASSED
+    while frame is not None and left:
+        name = frame.f_code.co_filename
         kind = kinds[name] if name in kinds else kind_of(name)
         if kind != PASSED:
-            chain.append((code, frame.f_lasti))
-        if kind == PLAIN:
-            break
+            outer = frame
+            if inner is None:
+                inner = frame
+            if kind == PLAIN:
+                break
+            left -= 1
         frame = frame.f_back
-    if len(chain) > 2:
-        chain = [chain[0], chain[-1]]
-    return tuple(chain)
+    if inner is outer:
+        return () if inner is None else ((inner.f_code, inner.f_lasti),)
+    return (inner.f_code, inner.f_lasti), (outer.f_code, outer.f_lasti)
+
+
+# Where the library takes a lock by `with`, its frame runs on until that lock is given back, and so do those further out. Until then the
+# record has the frame in the place of a chain, which is hardly ever needed.
+known_withs = {}  # whether a lock is taken by `with`, by the file, the first line of the function and the instruction
+
+
+def chain_or_frame(frame):
+    """The frames of a place, after which it is known whether a `with` is there."""
+    if frame is not None:
+        code, at = frame.f_code, frame.f_lasti
+        site = code.co_filename, code.co_firstlineno, at
+        if site not in known_withs:
+            known_withs[site] = kinds.get(site[0]) == LIBRARY and site[0][:1] != "<" and not code.co_flags & SUSPENDED and is_with(code, at)
+    return chain_of(frame)
+
+
+def is_with(code, at):
+    """Whether an instruction calls `__enter__`."""
+    from opcode import opname
+    return opname[code.co_code[at]] in WITH
+
+
+def settled(place):
+    """The place of a record, a chain or a code, with its instruction, as it is once its lock may not be held any more."""
+    code, at = place
+    return (((code.f_code, at),) + chain_of(code)[1:], None) if type(code) is Frame else place
 
 
 def line_of(code, instruction):
@@ -436,10 +470,14 @@ def took(lock, mode):
             code, before, frame = 8 * lock.key + mode, task.way, getframe(1).f_back
             if frame is not None and frame.f_code.co_filename in known_passed:
                 frame = frame.f_back
-            if frame is not None and frame.f_code.co_filename in known_plain:
-                records.append((code, frame.f_code, frame.f_lasti))
+            of_frame = frame.f_code if frame is not None else None
+            if of_frame is not None and of_frame.co_filename in known_plain:
+                records.append((code, of_frame, frame.f_lasti))
+            elif (of_frame is not None and known_withs.get((of_frame.co_filename, of_frame.co_firstlineno, frame.f_lasti))
+                  and find_greenlet is None):
+                records.append((code, frame, frame.f_lasti))
             else:
-                records.append((code, chain_of(frame), None))
+                records.append((code, chain_or_frame(frame), None))
             entry = lock.entry = (lock.spare if lock.entry is None else None) or spare_of(lock)
             entry.task, entry.code, entry.record, entry.start, entry.before = task, code, record, record, before
             held.append(entry)
@@ -624,7 +662,7 @@ def lend(task, aside, frame):
     """The other task takes what the examined one holds, in its order."""
     for entry in [entry for entry in task.held if entry is not task.wish]:
         at = entry.record - task.base
-        take_over(aside, entry.lock, entry.code, task.records[at][1:] if 0 <= at < len(task.records) else (None, None))
+        take_over(aside, entry.lock, entry.code, settled(task.records[at][1:]) if 0 <= at < len(task.records) else (None, None))
     examined = held_meanwhile(task, frame)
     if examined is not None:
         take_over(aside, *examined)
@@ -687,6 +725,7 @@ def give_back(task, entry):
         task.way = entry.before
         start, records = entry.start, task.records
         if start < task.fresh:
+            settle_record(task, entry)
             records.append((entry.code & ~7 | RELEASE, None, None))
         else:
             at = start - task.base
@@ -699,9 +738,17 @@ def give_back(task, entry):
         give_back_early(task, entry)
 
 
+def settle_record(task, entry):
+    """The record of a lock that is given back stays."""
+    at = entry.record - task.base
+    if 0 <= at < len(task.records) and type(task.records[at][1]) is Frame:
+        task.records[at] = task.records[at][:1] + settled(task.records[at][1:])
+
+
 def give_back_early(task, entry):
     """A task no longer holds a lock, but still holds others that it took later: these move up to its place. What is dropped begins
     where just those before it are held: that is where the one before it began, if that is a lock with the same code, or nowhere."""
+    settle_record(task, entry)
     held = task.held
     at = held.index(entry)
     start, code = entry.start, entry.code
@@ -807,7 +854,7 @@ def move(task):
 def place_of(task, entry):
     """The place of the record of what is held."""
     at = entry.record - task.base
-    return task.records[at][1:] if 0 <= at < len(task.records) else entry.place
+    return settled(task.records[at][1:]) if 0 <= at < len(task.records) else entry.place
 
 
 def take_again(task, entry, place):
@@ -1064,6 +1111,7 @@ def place_number(code, at):
     """The number of a place, which is written if the file doesn't have it."""
     if code is None:
         return 0
+    code, at = settled((code, at))
     chain = code if at is None else ((code, at),)
     key = key_of(chain)
     of = process
