@@ -14,9 +14,7 @@ import org.objectweb.asm.Handle;
 import org.objectweb.asm.Opcodes;
 import org.objectweb.asm.Type;
 import org.objectweb.asm.tree.AbstractInsnNode;
-import org.objectweb.asm.tree.ClassNode;
 import org.objectweb.asm.tree.FieldInsnNode;
-import org.objectweb.asm.tree.FieldNode;
 import org.objectweb.asm.tree.FrameNode;
 import org.objectweb.asm.tree.InsnList;
 import org.objectweb.asm.tree.InsnNode;
@@ -36,10 +34,10 @@ import org.objectweb.asm.tree.VarInsnNode;
  * synchronized method gets its own frame.
  */
 final class MethodRewriter {
-    private final ClassNode type;
+    private final ClassFile type;
     private final MethodNode method;
     private final Source source;
-    private final Locking locking;
+    private final Wanted wanted;
     private final InsnList code;
     private final Map<Integer, Integer> madeOnLine = new HashMap<>();
     /** The objects that are being made: the names of their classes, null if they aren't kept. */
@@ -61,11 +59,11 @@ final class MethodRewriter {
         }
     }
 
-    MethodRewriter(ClassNode type, MethodNode method, Source source, Locking locking) {
+    MethodRewriter(ClassFile type, MethodNode method, Source source, Wanted wanted) {
         this.type = type;
         this.method = method;
         this.source = source;
-        this.locking = locking;
+        this.wanted = wanted;
         code = method.instructions;
     }
 
@@ -150,7 +148,7 @@ final class MethodRewriter {
         int depth = source.isOfJdk ? 0 : Calls.depthOfStart(call);
         if (depth == 2) before(call, list(new InsnNode(Opcodes.DUP2), new InsnNode(Opcodes.POP), starts()));
         else if (depth == 1) before(call, list(new InsnNode(Opcodes.DUP), starts()));
-        String receiver = Calls.receiver(call, locking);
+        String receiver = Calls.receiver(call, wanted.hierarchy);
         if (receiver == null) return;
         if (Calls.hasSite(call)) before(call, list(site()));
         String words = call.desc.substring(1, call.desc.indexOf(')')) + (Calls.hasSite(call) ? "I" : "");
@@ -186,19 +184,25 @@ final class MethodRewriter {
     private void endNew(MethodInsnNode call) {
         if (!news.isEmpty() && news.peek().desc.equals(call.owner)) {
             TypeInsnNode made = news.pop();
-            boolean isKept = Locking.realAfter(made) != null && Locking.realAfter(made).getOpcode() == Opcodes.DUP;
-            if (isKept && (locking.isNoted(made.desc) || isKeptInLockedField(call))) noteMade(call);
+            boolean isKept = realAfter(made) != null && realAfter(made).getOpcode() == Opcodes.DUP;
+            if (isKept && (wanted.isNoted(made.desc) || isKeptInLockedField(call))) noteMade(call);
         } else if (method.name.equals("<init>") && news.isEmpty() && !call.owner.equals(type.name)
-                && locking.isOfItself) {
+                && wanted.locking.isOfItself()) {
             after(call, list(new VarInsnNode(Opcodes.ALOAD, 0), hook("born", "(Ljava/lang/Object;)V")));
         }
     }
 
+    private static AbstractInsnNode realAfter(AbstractInsnNode from) {
+        AbstractInsnNode after = from.getNext();
+        while (after != null && after.getOpcode() < 0) after = after.getNext();
+        return after;
+    }
+
     private boolean isKeptInLockedField(AbstractInsnNode made) {
-        AbstractInsnNode next = Locking.realAfter(made);
+        AbstractInsnNode next = realAfter(made);
         if (!(next instanceof FieldInsnNode)) return false;
         boolean isStore = next.getOpcode() == Opcodes.PUTFIELD || next.getOpcode() == Opcodes.PUTSTATIC;
-        return isStore && locking.isLocked((FieldInsnNode) next);
+        return isStore && wanted.locking.isLocked(((FieldInsnNode) next).owner, ((FieldInsnNode) next).name);
     }
 
     /** The object on the stack was made on this line. */
@@ -228,7 +232,7 @@ final class MethodRewriter {
      */
     private boolean canBeWrapped() {
         boolean isStatic = (method.access & Opcodes.ACC_STATIC) != 0;
-        if (isStatic) return (type.version & 0xffff) >= Opcodes.V1_5;
+        if (isStatic) return type.version >= Opcodes.V1_5;
         int locals = Type.getArgumentTypes(method.desc).length + 1;
         for (AbstractInsnNode each = code.getFirst(); each != null; each = each.getNext()) {
             boolean isStore = each.getOpcode() >= Opcodes.ISTORE && each.getOpcode() <= Opcodes.ASTORE;
@@ -262,10 +266,7 @@ final class MethodRewriter {
      */
     private boolean isByItself() {
         if (!Provoke.isOn() || source.isOfJdk) return false;
-        for (FieldNode field : type.fields) {
-            if (field.name.equals("serialVersionUID")) return true;
-        }
-        return !locking.hierarchy.maySerialize(type.superName, type.interfaces.toArray(new String[0]), locking.loader,
+        return type.hasSerialVersion || !wanted.hierarchy.maySerialize(type.superName, type.interfaces,
                 Hierarchy.MOST_ABOVE);
     }
 
@@ -289,7 +290,7 @@ final class MethodRewriter {
         entry.add(start);
         code.insert(entry);
         code.add(end);
-        if ((type.version & 0xffff) >= Opcodes.V1_6) {
+        if (type.version >= Opcodes.V1_6) {
             Object[] locals = (method.access & Opcodes.ACC_STATIC) != 0 ? new Object[0] : new Object[] {type.name};
             code.add(new FrameNode(Opcodes.F_FULL, locals.length, locals, 1, new Object[] {"java/lang/Throwable"}));
         }

@@ -1,0 +1,81 @@
+package lockdep.agent;
+
+import java.util.Set;
+
+import org.objectweb.asm.Opcodes;
+
+/** Which methods of a class may have something to rewrite, and what else rewriting them has to know. */
+final class Wanted {
+    /** Classes of the JDK whose objects are locks, or are often used as such: where they are made is always noted. */
+    private static final Set<String> LOCKS = Set.of("java/lang/Object", "java/util/Vector", "java/util/Stack",
+            "java/util/Hashtable",
+            "java/util/Properties", Hierarchy.LOCKS + "ReentrantLock", Hierarchy.LOCKS + "ReentrantReadWriteLock",
+            Hierarchy.LOCKS + "StampedLock");
+
+    final Hierarchy hierarchy;
+    final Locking locking;
+    /** Whether string buffers are recorded. Otherwise they aren't noted, since there are too many of them. */
+    private final boolean hasBuffers;
+    private final ClassFile type;
+    /** The constants of the class that make an instruction with them one that may be rewritten. */
+    private final boolean[] constants;
+
+    Wanted(ClassFile type, Hierarchy hierarchy, Locking locking, boolean hasBuffers) {
+        this.type = type;
+        this.hierarchy = hierarchy;
+        this.locking = locking;
+        this.hasBuffers = hasBuffers;
+        constants = new boolean[type.countOfConstants()];
+        boolean hasReference = false;
+        for (int each = 1; each < constants.length; each++) {
+            constants[each] = matters(each);
+            hasReference |= type.kind(each) == ClassFile.HANDLE && Calls.mayBeReference(type, each);
+        }
+        if (hasReference) addDynamicCalls();
+        for (ClassFile.Method method : type.methods) look(method);
+    }
+
+    /** Whether it is always noted where objects of a class are made. */
+    boolean isNoted(String name) {
+        return LOCKS.contains(name) || hasBuffers && name.equals(Locking.BUFFER);
+    }
+
+    /** Whether any method may be rewritten. */
+    boolean hasAny() {
+        for (ClassFile.Method method : type.methods) {
+            if (method.isWanted) return true;
+        }
+        return false;
+    }
+
+    private boolean matters(int constant) {
+        switch (type.kind(constant)) {
+            case ClassFile.CLASS:
+                return isNoted(type.nameOfClass(constant));
+            case ClassFile.METHOD:
+            case ClassFile.METHOD_OF_INTERFACE:
+                return Calls.mayMatter(type, constant);
+            case ClassFile.FIELD: // what is made may be kept there
+                return locking.locksFields() && locking.isLocked(type.owner(constant), type.nameOfMember(constant));
+            default:
+                return false;
+        }
+    }
+
+    private void addDynamicCalls() {
+        for (int each = 1; each < constants.length; each++) constants[each] |= type.kind(each) == ClassFile.DYNAMIC_CALL;
+    }
+
+    private void look(ClassFile.Method method) {
+        method.isWanted = method.isSynchronized() || method.isConstructor && locking.isOfItself();
+        for (int at = method.start; at < method.end && !method.isWanted; at = type.after(at, method)) {
+            int opcode = type.opcode(at);
+            if (opcode >= Opcodes.PUTSTATIC) method.isWanted = matters(opcode, at);
+        }
+    }
+
+    private boolean matters(int opcode, int at) {
+        if (opcode > Opcodes.NEW) return opcode == Opcodes.MONITORENTER || opcode == Opcodes.MONITOREXIT;
+        return opcode != Opcodes.GETFIELD && constants[type.number(at + 1)];
+    }
+}
