@@ -21,23 +21,55 @@ public final class Site {
     private final int ordinal;
     /** For a place in the JDK: the program's own line that led there. */
     private final String caller;
+    private final Call call;
     private Made made;
     private int told;
     private Provoke.Fits fits;
     /** Where the second file of Provoke has it, alone. */
     long[] only;
 
-    private Site(Source source, String method, int line, int ordinal, String caller) {
+    /** The call of a constructor: in what kind of method, of what class, and where in the code. */
+    private static final class Call {
+        final String descriptor;
+        String made;
+        int at;
+
+        Call(String descriptor, String made) {
+            this.descriptor = descriptor;
+            this.made = made;
+        }
+    }
+
+    private Site(Source source, String method, int line, int ordinal, String caller, Call call) {
         this.source = source;
         this.method = method;
         this.line = line;
         this.ordinal = ordinal;
         this.caller = caller;
+        this.call = call;
     }
 
     /** A new place; the number is which of the line's objects is made there, from 1. */
     public static int add(Source source, String method, int line, int ordinal) {
-        return add(new Site(source, method, line, ordinal, ""));
+        return add(new Site(source, method, line, ordinal, "", null));
+    }
+
+    /** A new place where a constructor of a class is called, and is told that. */
+    public static int addCall(Source source, String method, String descriptor, int line, String made) {
+        return add(new Site(source, method, line, 1, "", new Call(descriptor, made)));
+    }
+
+    /** Where in the code the constructor is called. */
+    public static void calledAt(int number, int at) {
+        of(number).call.at = at;
+    }
+
+    /** Whether an object whose constructor runs is what is made here. */
+    boolean makes(Object object) {
+        String name = object.getClass().getName();
+        boolean isSame = name.equals(call.made);
+        if (isSame) call.made = name; // so that they are one text from here on
+        return isSame;
     }
 
     private static synchronized int add(Site site) {
@@ -61,7 +93,7 @@ public final class Site {
         Site site = of(number);
         String caller = walker.walk(frames -> frames.filter(frame -> isOfProgram(frame.getDeclaringClass())).findFirst()
                 .map(frame -> place(frame)).orElse(""));
-        return add(new Site(site.source, site.method, site.line, site.ordinal, "\t" + caller));
+        return add(new Site(site.source, site.method, site.line, site.ordinal, "\t" + caller, null));
     }
 
     /** (Code that calls constructors by reflection has its own loader.) */
@@ -107,11 +139,19 @@ public final class Site {
     /** The class of what is made here. */
     Made made() {
         Made known = made;
-        if (known == null) {
-            String name = source.className + "." + method + ":" + line + suffix(ordinal);
-            known = made = Made.of(fitting(name), place(), "made in");
-        }
-        return known;
+        return known != null ? known : addMade();
+    }
+
+    @Apart
+    private Made addMade() {
+        String name = source.className + "." + method + ":" + where();
+        return made = Made.of(fitting(name), place(), "made in");
+    }
+
+    private String where() {
+        if (call == null) return line + suffix(ordinal);
+        return line > 0 ? line + suffix(OnLine.ordinalOf(source.className, method, call.descriptor, line, call.at))
+                : "+" + call.at;
     }
 
     /** The class of the threads that are started here. */
@@ -127,6 +167,7 @@ public final class Site {
     /**
      * The class of an object whose constructor runs: where it is called. Null if the JDK calls it, as in reflection.
      */
+    @Apart
     static Made madeByCaller(Object object) {
         return walker.walk(frames -> frames.skip(2).filter(frame -> !isConstructor(frame, object)).findFirst()
                 .filter(frame -> isOfProgram(frame.getDeclaringClass()))

@@ -44,26 +44,34 @@ final class Calls {
 
     private static final Set<String> OF_RUNTIME = Set.of("halt(I)V");
     private static final String MAKER = "newCondition()L" + CONDITION + ";";
-    /** The names of all calls, and these with what they take and return. */
-    private static final Set<String> NAMES = new HashSet<>(Set.of("start", "exec"));
+    private static final Words STARTERS = new Words(Set.of("java/lang/Runtime", "java/lang/ProcessBuilder"));
+    private static final Words COLLECTIONS = new Words(Set.of("java/util/Collections"));
     private static final Set<String> SIGNATURES = new HashSet<>(Set.of(MAKER));
+    /** The names of all calls that are rewritten. */
+    private static final Words NAMES;
 
     static {
         for (Set<String> some : List.of(OF_LOCK, OF_CONDITION, OF_STAMPED, VIEWS.keySet(), WAITS, OF_THREAD, OF_RUNTIME)) {
             SIGNATURES.addAll(some);
         }
-        for (String signature : SIGNATURES) NAMES.add(signature.substring(0, signature.indexOf('(')));
+        Set<String> names = new HashSet<>(Set.of("start", "exec"));
+        for (String signature : SIGNATURES) names.add(signature.substring(0, signature.indexOf('(')));
+        NAMES = new Words(names);
     }
 
     private Calls() {
     }
 
-    /** Whether a method of a class's constants may be one whose calls are rewritten, or that makes locks. */
+    /** Whether a method of a class's constants may be one whose calls are rewritten. */
     static boolean mayMatter(ClassFile type, int method) {
-        String name = type.nameOfMember(method);
-        if (name.startsWith("synchronized")) return true;
-        if (!NAMES.contains(name)) return false;
-        return SIGNATURES.contains(name + type.descriptor(method)) || isStart(type.owner(method), name);
+        int owner = type.part(type.part(method, 1), 1);
+        int name = type.part(type.part(method, 3), 1);
+        if (COLLECTIONS.has(type, owner)) return type.text(name).startsWith("synchronized");
+        return NAMES.has(type, name) && (STARTERS.has(type, owner) || isReplaced(type, method));
+    }
+
+    private static boolean isReplaced(ClassFile type, int method) {
+        return SIGNATURES.contains(type.nameOfMember(method).concat(type.descriptor(method)));
     }
 
     /** Whether a handle of a class's constants is one to a call that is replaced. */
@@ -122,14 +130,9 @@ final class Calls {
      * it starts none, or in a folder that is named.
      */
     static int depthOfStart(MethodInsnNode call) {
-        if (!isStart(call.owner, call.name)) return 0;
-        if (call.owner.equals("java/lang/ProcessBuilder")) return 1;
+        if (call.owner.equals("java/lang/ProcessBuilder")) return call.name.equals("start") ? 1 : 0;
+        if (!call.owner.equals("java/lang/Runtime") || !call.name.equals("exec")) return 0;
         if (call.desc.contains("Ljava/io/File;")) return 0;
         return call.desc.contains(";[L") ? 2 : 1;
-    }
-
-    private static boolean isStart(String owner, String name) {
-        return owner.equals("java/lang/ProcessBuilder") ? name.equals("start")
-                : owner.equals("java/lang/Runtime") && name.equals("exec");
     }
 }

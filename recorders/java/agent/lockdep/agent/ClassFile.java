@@ -233,6 +233,10 @@ final class ClassFile {
         }
     }
 
+    int letter(int constant, int at) {
+        return bytes[constants[constant] + 3 + at];
+    }
+
     private boolean isText(int constant, String wanted) {
         return part(constant, 1) == wanted.length() && text(constant).equals(wanted);
     }

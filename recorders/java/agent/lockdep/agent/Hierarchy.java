@@ -1,5 +1,7 @@
 package lockdep.agent;
 
+import java.io.File;
+import java.io.FileInputStream;
 import java.io.IOException;
 import java.io.InputStream;
 import java.io.Serializable;
@@ -8,12 +10,15 @@ import java.lang.ref.ReferenceQueue;
 import java.lang.ref.WeakReference;
 import java.util.Set;
 import java.util.concurrent.ConcurrentHashMap;
+import java.util.jar.JarFile;
+import java.util.zip.ZipEntry;
+import java.util.zip.ZipFile;
 
 /**
  * Whether a class of the program is a lock, a thread or serialised: its file names its superclasses, and none of the
  * program's classes is loaded for that. What the files say is kept for each loader, which isn't kept alive.
  */
-final class Hierarchy extends WeakReference<ClassLoader> {
+final class Hierarchy implements AutoCloseable {
     static final String LOCKS = "java/util/concurrent/locks/";
     static final Set<String> LOCK = Set.of(LOCKS + "Lock", LOCKS + "ReentrantLock",
             LOCKS + "ReentrantReadWriteLock$ReadLock",
@@ -25,56 +30,26 @@ final class Hierarchy extends WeakReference<ClassLoader> {
     private static final Set<String> THREAD = Set.of("java/lang/Thread");
     static final int MOST_ABOVE = 16;
 
-    /** What the file of a class says of it. */
-    private static final class Facts {
-        final String superName;
-        final String[] interfaces;
-        final boolean isOfItself;
+    private final ClassLoader loader;
+    private final OfLoader known;
+    /** The folder or jar of the class that asks, in which others are looked for first, since that costs less; or null. */
+    private final String location;
+    private JarFile jar;
 
-        Facts(ClassFile type, Locking locking) {
-            superName = type.superName;
-            interfaces = type.interfaces;
-            isOfItself = locking.isOfItself();
-        }
-    }
-
-    private static final ConcurrentHashMap<Hierarchy, Hierarchy> all = new ConcurrentHashMap<>();
-    private static final ReferenceQueue<ClassLoader> gone = new ReferenceQueue<>();
-
-    private final int hash;
-    private final boolean isOfBoot;
-    private final ConcurrentHashMap<String, Facts> known = new ConcurrentHashMap<>();
-
-    private Hierarchy(ClassLoader loader) {
-        super(loader, gone);
-        hash = System.identityHashCode(loader);
-        isOfBoot = loader == null;
-    }
-
-    /** That of the classes that a loader finds; null for the boot loader. */
-    static Hierarchy of(ClassLoader loader) {
-        for (Reference<?> old = gone.poll(); old != null; old = gone.poll()) all.remove(old);
-        Hierarchy made = new Hierarchy(loader);
-        Hierarchy before = all.putIfAbsent(made, made);
-        return before == null ? made : before;
+    Hierarchy(ClassLoader loader, String location) {
+        this.loader = loader;
+        this.location = location;
+        known = OfLoader.of(loader);
     }
 
     @Override
-    public int hashCode() {
-        return hash;
-    }
-
-    @Override
-    public boolean equals(Object other) {
-        if (this == other || !(other instanceof Hierarchy)) return this == other;
-        ClassLoader loader = get();
-        return isOfBoot == ((Hierarchy) other).isOfBoot && (isOfBoot || loader != null)
-                && loader == ((Hierarchy) other).get();
+    public void close() throws IOException {
+        if (jar != null) jar.close();
     }
 
     /** A class is being loaded. */
     void add(ClassFile type, Locking locking) {
-        known.put(type.name, new Facts(type, locking));
+        known.classes.put(type.name, new Facts(type, locking));
     }
 
     /** Whether a class is a Lock, or one below it. */
@@ -107,11 +82,20 @@ final class Hierarchy extends WeakReference<ClassLoader> {
         return false;
     }
 
-    /** Whether the objects of a class of the program are locked by it or by what is above it, or are locks. */
-    boolean isOfItself(String name, int most) {
-        if (name == null || most == 0 || name.startsWith("java/") || name.startsWith("[")) return false;
-        Facts facts = facts(name);
-        return facts != null && (facts.isOfItself || isOfItself(facts.superName, most - 1));
+    /**
+     * Whether the objects of a class of the program are locked by it or by what is above it, or are locks. It may be said
+     * of one that they aren't.
+     */
+    boolean isOfItself(String name) {
+        String above = name;
+        for (int most = MOST_ABOVE; most > 0 && above != null && !above.startsWith("java/"); most--) {
+            if (above.endsWith("Exception") || above.endsWith("Error") || known.missing.contains(above)) return false;
+            Facts facts = facts(above);
+            if (facts == null) known.missing.add(above);
+            if (facts == null || facts.isOfItself) return facts != null;
+            above = facts.superName;
+        }
+        return false;
     }
 
     /** Whether a class may be one whose objects are serialised: what is above it says so, or isn't known. */
@@ -139,23 +123,80 @@ final class Hierarchy extends WeakReference<ClassLoader> {
     }
 
     private Facts facts(String name) {
-        Facts found = known.get(name);
+        Facts found = known.classes.get(name);
         if (found != null) return found;
         ClassFile type = read(name + ".class");
         if (type == null) return null;
         found = new Facts(type, new Locking(type));
-        known.put(name, found);
+        known.classes.put(name, found);
         return found;
     }
 
     private ClassFile read(String file) {
-        ClassLoader loader = get();
-        if (loader == null && !isOfBoot) return null;
-        try (InputStream bytes = isOfBoot ? ClassLoader.getSystemResourceAsStream(file)
-                : loader.getResourceAsStream(file)) {
+        try (InputStream near = location == null ? null : openNear(file); InputStream bytes = near != null ? near
+                : loader == null ? ClassLoader.getSystemResourceAsStream(file) : loader.getResourceAsStream(file)) {
             return bytes == null ? null : new ClassFile(bytes.readAllBytes());
         } catch (IOException | RuntimeException | LinkageError unreadable) {
             return null;
+        }
+    }
+
+    private InputStream openNear(String file) throws IOException {
+        File place = new File(location);
+        if (place.isDirectory()) {
+            File found = new File(place, file);
+            return found.isFile() ? new FileInputStream(found) : null;
+        }
+        if (jar == null) jar = new JarFile(place, false, ZipFile.OPEN_READ, JarFile.runtimeVersion());
+        ZipEntry entry = jar.getEntry(file);
+        return entry == null ? null : jar.getInputStream(entry);
+    }
+
+    /** What the file of a class says of it. */
+    private static final class Facts {
+        final String superName;
+        final String[] interfaces;
+        final boolean isOfItself;
+
+        Facts(ClassFile type, Locking locking) {
+            superName = type.superName;
+            interfaces = type.interfaces;
+            isOfItself = locking.isOfItself();
+        }
+    }
+
+    /** What is known of the classes that a loader finds, which doesn't keep the loader alive. */
+    private static final class OfLoader extends WeakReference<ClassLoader> {
+        private static final ConcurrentHashMap<OfLoader, OfLoader> all = new ConcurrentHashMap<>();
+        private static final ReferenceQueue<ClassLoader> gone = new ReferenceQueue<>();
+        private static final OfLoader BOOT = new OfLoader(null);
+
+        final ConcurrentHashMap<String, Facts> classes = new ConcurrentHashMap<>();
+        final Set<String> missing = ConcurrentHashMap.newKeySet();
+        private final int hash;
+
+        private OfLoader(ClassLoader loader) {
+            super(loader, gone);
+            hash = System.identityHashCode(loader);
+        }
+
+        static OfLoader of(ClassLoader loader) {
+            if (loader == null) return BOOT;
+            for (Reference<?> old = gone.poll(); old != null; old = gone.poll()) all.remove(old);
+            OfLoader made = new OfLoader(loader);
+            OfLoader before = all.putIfAbsent(made, made);
+            return before == null ? made : before;
+        }
+
+        @Override
+        public int hashCode() {
+            return hash;
+        }
+
+        @Override
+        public boolean equals(Object other) {
+            ClassLoader loader = get();
+            return this == other || loader != null && other instanceof OfLoader && ((OfLoader) other).get() == loader;
         }
     }
 }

@@ -35,6 +35,7 @@ import org.objectweb.asm.tree.VarInsnNode;
  */
 final class MethodRewriter {
     private final ClassFile type;
+    private final ClassFile.Method read;
     private final MethodNode method;
     private final Source source;
     private final Wanted wanted;
@@ -43,6 +44,8 @@ final class MethodRewriter {
     /** The objects that are being made: the names of their classes, null if they aren't kept. */
     private final ArrayDeque<TypeInsnNode> news = new ArrayDeque<>();
     private final List<Noted> noted = new ArrayList<>();
+    /** The places of constructors that are told them. */
+    private final Map<Integer, LabelNode> told = new HashMap<>();
     private boolean isChanged;
     private int line;
 
@@ -59,8 +62,9 @@ final class MethodRewriter {
         }
     }
 
-    MethodRewriter(ClassFile type, MethodNode method, Source source, Wanted wanted) {
+    MethodRewriter(ClassFile type, ClassFile.Method read, MethodNode method, Source source, Wanted wanted) {
         this.type = type;
+        this.read = read;
         this.method = method;
         this.source = source;
         this.wanted = wanted;
@@ -184,6 +188,7 @@ final class MethodRewriter {
     private void endNew(MethodInsnNode call) {
         if (!news.isEmpty() && news.peek().desc.equals(call.owner)) {
             TypeInsnNode made = news.pop();
+            if (wanted.isTold(read, made.desc)) tell(call);
             boolean isKept = realAfter(made) != null && realAfter(made).getOpcode() == Opcodes.DUP;
             if (isKept && (wanted.isNoted(made.desc) || isKeptInLockedField(call))) noteMade(call);
         } else if (method.name.equals("<init>") && news.isEmpty() && !call.owner.equals(type.name)
@@ -216,8 +221,17 @@ final class MethodRewriter {
         after(made, list(new InsnNode(Opcodes.DUP), number(site), hook("made", "(Ljava/lang/Object;I)V")));
     }
 
+    /** A constructor looks for its caller if it isn't told where it is called, and that costs much. */
+    private void tell(MethodInsnNode call) {
+        int site = Site.addCall(source, method.name, method.desc, line, call.owner.replace('/', '.'));
+        LabelNode constructor = new LabelNode();
+        before(call, list(number(site), hook("makes", "(I)V"), constructor));
+        told.put(site, constructor);
+    }
+
     /** Once the class is written: says where in its code the constructors of noted objects are called. */
     void tellNoted() {
+        told.forEach((site, constructor) -> Site.calledAt(site, constructor.getLabel().getOffset()));
         for (Noted each : noted) {
             int at = each.constructor == null ? -1 : each.constructor.getLabel().getOffset();
             OnLine.note(source, method.name, method.desc, each.line, each.ordinal, at);

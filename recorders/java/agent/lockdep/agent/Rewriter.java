@@ -86,16 +86,19 @@ final class Rewriter implements ClassFileTransformer {
         return false;
     }
 
-    private byte[] rewrite(ClassLoader loader, byte[] file, ProtectionDomain domain, boolean isOfJdk) {
+    private byte[] rewrite(ClassLoader loader, byte[] file, ProtectionDomain domain, boolean isOfJdk)
+            throws IOException {
         ClassFile type = new ClassFile(file);
-        Source source = Source.add(type.name.replace('/', '.'), type.sourceFile, location(domain), type.firstLine,
-                isOfJdk);
-        Hierarchy hierarchy = Hierarchy.of(loader);
-        if (!isOfJdk && hierarchy.isSynchronizer(type.name, type.superName)) Recording.synchronizer();
-        Locking locking = new Locking(type);
-        hierarchy.add(type, locking);
-        Wanted wanted = new Wanted(type, hierarchy, locking, begins(Locking.BUFFER, jdk));
-        return wanted.hasAny() ? rewrite(type, source, wanted) : null;
+        String location = location(domain);
+        Source source = Source.add(type.name.replace('/', '.'), type.sourceFile, location, type.firstLine, isOfJdk);
+        try (Hierarchy hierarchy = new Hierarchy(loader, location)) {
+            if (!isOfJdk && hierarchy.isSynchronizer(type.name, type.superName)) Recording.synchronizer();
+            Locking locking = new Locking(type);
+            hierarchy.add(type, locking);
+            boolean isOfProgram = !isOfJdk && loader != null && loader != ClassLoader.getPlatformClassLoader();
+            Wanted wanted = new Wanted(type, hierarchy, locking, isOfProgram, begins(Locking.BUFFER, jdk));
+            return wanted.hasAny() ? rewrite(type, source, wanted) : null;
+        }
     }
 
     private static byte[] rewrite(ClassFile type, Source source, Wanted wanted) {
@@ -128,13 +131,14 @@ final class Rewriter implements ClassFileTransformer {
         @Override
         public MethodVisitor visitMethod(int access, String name, String descriptor, String signature,
                 String[] exceptions) {
-            if (!type.methods[next++].isWanted) {
+            ClassFile.Method read = type.methods[next++];
+            if (!read.isWanted) {
                 return super.visitMethod(access, name, descriptor, signature, exceptions);
             }
             return new MethodNode(Opcodes.ASM9, access, name, descriptor, signature, exceptions) {
                 @Override
                 public void visitEnd() {
-                    MethodRewriter rewriter = new MethodRewriter(type, this, source, wanted);
+                    MethodRewriter rewriter = new MethodRewriter(type, read, this, source, wanted);
                     if (instructions.size() > 0 && rewriter.rewrite()) changed.add(rewriter);
                     accept(cv);
                 }

@@ -7,25 +7,35 @@ import org.objectweb.asm.Opcodes;
 /** Which methods of a class may have something to rewrite, and what else rewriting them has to know. */
 final class Wanted {
     /** Classes of the JDK whose objects are locks, or are often used as such: where they are made is always noted. */
-    private static final Set<String> LOCKS = Set.of("java/lang/Object", "java/util/Vector", "java/util/Stack",
+    private static final Words LOCKS = new Words(Set.of("java/lang/Object", "java/util/Vector", "java/util/Stack",
             "java/util/Hashtable",
             "java/util/Properties", Hierarchy.LOCKS + "ReentrantLock", Hierarchy.LOCKS + "ReentrantReadWriteLock",
-            Hierarchy.LOCKS + "StampedLock");
+            Hierarchy.LOCKS + "StampedLock"));
+    private static final Words BUFFER = new Words(Set.of(Locking.BUFFER));
+
+    /** A method with more code than this is left as it is if only constructors would be told where they are called. */
+    private static final int LONGEST = 30000;
 
     final Hierarchy hierarchy;
     final Locking locking;
+    /** Whether constructors that are called are told where. */
+    private final boolean tells;
     /** Whether string buffers are recorded. Otherwise they aren't noted, since there are too many of them. */
     private final boolean hasBuffers;
     private final ClassFile type;
     /** The constants of the class that make an instruction with them one that may be rewritten. */
     private final boolean[] constants;
+    /** Of the constants that are classes, whether their objects are locked by themselves; null if that isn't known. */
+    private final Boolean[] areOfThemselves;
 
-    Wanted(ClassFile type, Hierarchy hierarchy, Locking locking, boolean hasBuffers) {
+    Wanted(ClassFile type, Hierarchy hierarchy, Locking locking, boolean tells, boolean hasBuffers) {
         this.type = type;
+        this.tells = tells;
         this.hierarchy = hierarchy;
         this.locking = locking;
         this.hasBuffers = hasBuffers;
         constants = new boolean[type.countOfConstants()];
+        areOfThemselves = new Boolean[constants.length];
         boolean hasReference = false;
         for (int each = 1; each < constants.length; each++) {
             constants[each] = matters(each);
@@ -37,7 +47,7 @@ final class Wanted {
 
     /** Whether it is always noted where objects of a class are made. */
     boolean isNoted(String name) {
-        return LOCKS.contains(name) || hasBuffers && name.equals(Locking.BUFFER);
+        return LOCKS.has(name) || hasBuffers && BUFFER.has(name);
     }
 
     /** Whether any method may be rewritten. */
@@ -51,7 +61,7 @@ final class Wanted {
     private boolean matters(int constant) {
         switch (type.kind(constant)) {
             case ClassFile.CLASS:
-                return isNoted(type.nameOfClass(constant));
+                return LOCKS.has(type, type.part(constant, 1)) || hasBuffers && BUFFER.has(type, type.part(constant, 1));
             case ClassFile.METHOD:
             case ClassFile.METHOD_OF_INTERFACE:
                 return Calls.mayMatter(type, constant);
@@ -71,11 +81,27 @@ final class Wanted {
         for (int at = method.start; at < method.end && !method.isWanted; at = type.after(at, method)) {
             int opcode = type.opcode(at);
             if (opcode >= Opcodes.PUTSTATIC) method.isWanted = matters(opcode, at);
+            if (opcode == Opcodes.NEW) method.isWanted |= isTold(method, type.number(at + 1));
         }
     }
 
     private boolean matters(int opcode, int at) {
         if (opcode > Opcodes.NEW) return opcode == Opcodes.MONITORENTER || opcode == Opcodes.MONITOREXIT;
         return opcode != Opcodes.GETFIELD && constants[type.number(at + 1)];
+    }
+
+    private boolean isTold(ClassFile.Method method, int made) {
+        if (!tells) return false;
+        if (areOfThemselves[made] == null) areOfThemselves[made] = hierarchy.isOfItself(type.nameOfClass(made));
+        return areOfThemselves[made] && isTold(method, type.nameOfClass(made));
+    }
+
+    /**
+     * Whether a constructor that a method calls is told where. One that the constructor of a class above it calls has the
+     * place where that one is called.
+     */
+    boolean isTold(ClassFile.Method method, String made) {
+        return tells && method.end - method.start < LONGEST && hierarchy.isOfItself(made)
+                && !(method.isConstructor && hierarchy.isBelow(made, Set.of(type.name), Hierarchy.MOST_ABOVE));
     }
 }
