@@ -1,7 +1,9 @@
 package java.lockdep;
 
 import java.util.Arrays;
+import java.util.Iterator;
 import java.util.Set;
+import java.util.concurrent.ConcurrentHashMap;
 
 /** A place of the program that does something with locks: a line of a method. Rewritten code names it by its number. */
 public final class Site {
@@ -9,6 +11,8 @@ public final class Site {
     private static final int MOST_NAME = 53;
     /** Before what a thread is known by. */
     private static final String THREAD = "thread:";
+    /** On the stack of a constructor that looks for its caller. */
+    private static final int FRAMES_OF_RECORDER = 2;
     private static final StackWalker walker = StackWalker.getInstance(Set.of(StackWalker.Option.RETAIN_CLASS_REFERENCE,
             StackWalker.Option.SHOW_REFLECT_FRAMES));
 
@@ -164,18 +168,67 @@ public final class Site {
         return known;
     }
 
+    /** A call of a constructor in a class of the program. */
+    private static final class Caller {
+        private final String method;
+        private final String descriptor;
+        private final int at;
+
+        Caller(StackWalker.StackFrame frame) {
+            method = frame.getMethodName();
+            descriptor = frame.getDescriptor();
+            at = frame.getByteCodeIndex();
+        }
+
+        @Override
+        public int hashCode() {
+            return method.hashCode() + 31 * at;
+        }
+
+        @Override
+        public boolean equals(Object other) {
+            return other instanceof Caller && at == ((Caller) other).at && method.equals(((Caller) other).method)
+                    && descriptor.equals(((Caller) other).descriptor);
+        }
+    }
+
+    /** The classes of what each class of the program makes, by the calls of constructors. */
+    private static final ClassValue<ConcurrentHashMap<Caller, Made>> callers = new ClassValue<>() {
+        @Override
+        protected ConcurrentHashMap<Caller, Made> computeValue(Class<?> type) {
+            return new ConcurrentHashMap<>();
+        }
+    };
+
     /**
      * The class of an object whose constructor runs: where it is called. Null if the JDK calls it, as in reflection.
      */
     @Apart
     static Made madeByCaller(Object object) {
-        return walker.walk(frames -> frames.skip(2).filter(frame -> !isConstructor(frame, object)).findFirst()
-                .filter(frame -> isOfProgram(frame.getDeclaringClass()))
-                .map(frame -> Made.of(fitting(nameOf(frame)), place(frame), "made in")).orElse(null));
+        return walker.walk(frames -> madeByCaller(frames.iterator(), object));
+    }
+
+    private static Made madeByCaller(Iterator<StackWalker.StackFrame> frames, Object object) {
+        for (int left = FRAMES_OF_RECORDER; left > 0; left--) frames.next();
+        while (frames.hasNext()) {
+            StackWalker.StackFrame frame = frames.next();
+            if (!isConstructor(frame, object)) return isOfProgram(frame.getDeclaringClass()) ? madeBy(frame) : null;
+        }
+        return null;
+    }
+
+    private static Made madeBy(StackWalker.StackFrame frame) {
+        ConcurrentHashMap<Caller, Made> known = callers.get(frame.getDeclaringClass());
+        Caller caller = new Caller(frame);
+        Made made = known.get(caller);
+        if (made != null) return made;
+        made = Made.of(fitting(nameOf(frame)), place(frame), "made in");
+        known.put(caller, made);
+        return made;
     }
 
     private static boolean isConstructor(StackWalker.StackFrame frame, Object object) {
-        return frame.getMethodName().equals("<init>") && frame.getDeclaringClass().isInstance(object);
+        return frame.getDeclaringClass().isInstance(object) && frame.getMethodName().equals("<init>");
     }
 
     /** The end of a name: which of the line's objects it is, unless it is the first. */

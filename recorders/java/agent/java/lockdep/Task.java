@@ -79,10 +79,15 @@ final class Task {
     static Task begin() {
         Task task = here.get();
         if (task == null) task = add();
-        if (task.isBusy || Recording.isOver) return null;
-        task.isBusy = true;
-        if (task.stand != null && task.stand.isAsking) Provoke.run(task.stand);
-        return task;
+        return task.beginAgain() ? task : null;
+    }
+
+    /** The running task is busy from here on, unless nothing is to be recorded now. */
+    boolean beginAgain() {
+        if (isBusy || Recording.isOver) return false;
+        isBusy = true;
+        if (stand != null && stand.isAsking) Provoke.run(stand);
+        return true;
     }
 
     @Apart

@@ -13,7 +13,7 @@ final class Wanted {
             Hierarchy.LOCKS + "StampedLock"));
     private static final Words BUFFER = new Words(Set.of(Locking.BUFFER));
 
-    /** A method with more code than this is left as it is if only constructors would be told where they are called. */
+    /** In a method with more code than this, constructors aren't told where they are called. */
     private static final int LONGEST = 30000;
 
     final Hierarchy hierarchy;
@@ -25,8 +25,6 @@ final class Wanted {
     private final ClassFile type;
     /** The constants of the class that make an instruction with them one that may be rewritten. */
     private final boolean[] constants;
-    /** Of the constants that are classes, whether their objects are locked by themselves; null if that isn't known. */
-    private final Boolean[] areOfThemselves;
 
     Wanted(ClassFile type, Hierarchy hierarchy, Locking locking, boolean tells, boolean hasBuffers) {
         this.type = type;
@@ -35,7 +33,6 @@ final class Wanted {
         this.locking = locking;
         this.hasBuffers = hasBuffers;
         constants = new boolean[type.countOfConstants()];
-        areOfThemselves = new Boolean[constants.length];
         boolean hasReference = false;
         for (int each = 1; each < constants.length; each++) {
             constants[each] = matters(each);
@@ -81,7 +78,6 @@ final class Wanted {
         for (int at = method.start; at < method.end && !method.isWanted; at = type.after(at, method)) {
             int opcode = type.opcode(at);
             if (opcode >= Opcodes.PUTSTATIC) method.isWanted = matters(opcode, at);
-            if (opcode == Opcodes.NEW) method.isWanted |= isTold(method, type.number(at + 1));
         }
     }
 
@@ -90,15 +86,9 @@ final class Wanted {
         return opcode != Opcodes.GETFIELD && constants[type.number(at + 1)];
     }
 
-    private boolean isTold(ClassFile.Method method, int made) {
-        if (!tells) return false;
-        if (areOfThemselves[made] == null) areOfThemselves[made] = hierarchy.isOfItself(type.nameOfClass(made));
-        return areOfThemselves[made] && isTold(method, type.nameOfClass(made));
-    }
-
     /**
-     * Whether a constructor that a method calls is told where. One that the constructor of a class above it calls has the
-     * place where that one is called.
+     * Whether a constructor that is called in a method to be rewritten is told where. (In others it isn't, since to take
+     * these apart costs more.) One that the constructor of a class above it calls has the place where that one is called.
      */
     boolean isTold(ClassFile.Method method, String made) {
         return tells && method.end - method.start < LONGEST && hierarchy.isOfItself(made)
