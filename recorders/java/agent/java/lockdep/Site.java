@@ -217,6 +217,7 @@ public final class Site {
         return null;
     }
 
+    @Apart
     private static Made madeBy(StackWalker.StackFrame frame) {
         ConcurrentHashMap<Caller, Made> known = callers.get(frame.getDeclaringClass());
         Caller caller = new Caller(frame);

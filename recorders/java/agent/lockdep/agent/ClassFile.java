@@ -145,13 +145,13 @@ final class ClassFile {
     private Method method() {
         Method method = new Method(next);
         for (int left = begin(next + 6); left > 0; left--) {
-            if (isCalled("Code")) readCode(method);
+            if (isCalled("Code")) passCode(method);
             else pass();
         }
         return method;
     }
 
-    private void readCode(Method method) {
+    private void passCode(Method method) {
         method.start = next + 14;
         method.end = method.start + longNumber(next + 10);
         int handlers = number(method.end);

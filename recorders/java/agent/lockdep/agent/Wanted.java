@@ -58,7 +58,8 @@ final class Wanted {
     private boolean matters(int constant) {
         switch (type.kind(constant)) {
             case ClassFile.CLASS:
-                return LOCKS.has(type, type.part(constant, 1)) || hasBuffers && BUFFER.has(type, type.part(constant, 1));
+                int name = type.part(constant, 1);
+                return LOCKS.has(type, name) || hasBuffers && BUFFER.has(type, name);
             case ClassFile.METHOD:
             case ClassFile.METHOD_OF_INTERFACE:
                 return Calls.mayMatter(type, constant);
