@@ -13,13 +13,16 @@ import org.objectweb.asm.ClassWriter;
 import org.objectweb.asm.commons.ClassRemapper;
 import org.objectweb.asm.commons.Remapper;
 
-/** Gathers classes into a folder, ASM's under another name: Relocate FOLDER (FOLDER | JAR)... */
+/** Gathers classes into a folder, ASM's and an annotation's under other names: Relocate FOLDER (FOLDER | JAR)... */
 final class Relocate extends Remapper {
     private static final String FROM = "org/objectweb/asm/";
     private static final String TO = "lockdep/asm/";
+    private static final String APART = "java/lockdep/Apart";
+    private static final String NOT_INLINED = "jdk/internal/vm/annotation/DontInline";
 
     @Override
     public String map(String name) {
+        if (name.equals(APART)) return NOT_INLINED;
         return name.startsWith(FROM) ? TO + name.substring(FROM.length()) : name;
     }
 
@@ -30,6 +33,7 @@ final class Relocate extends Remapper {
                     .collect(Collectors.toList());
         }
         for (Path file : files) {
+            if (file.endsWith(APART + ".class")) continue;
             try (InputStream bytes = Files.newInputStream(file)) {
                 ClassReader reader = new ClassReader(bytes);
                 ClassWriter writer = new ClassWriter(0);

@@ -120,12 +120,19 @@ public final class Hooks {
         task.leave();
     }
 
+    /** A constructor is called next, at a place. */
+    public static void makes(int site) {
+        Task task = Task.ofThisThread();
+        if (task != null) task.making = site;
+    }
+
     /** The constructor begins for an object whose own class takes its monitor, or that is a lock. */
     public static void born(Object object) {
         Task task = Task.begin();
         if (task == null) return;
         try {
-            Made made = Known.isMade(object, task.probe) ? null : Site.madeByCaller(object);
+            Made made = task.toldOf(object);
+            if (made == null && !Known.isMade(object, task.probe)) made = Site.madeByCaller(object);
             if (made != null) Known.made(object, made, task.probe);
         } catch (Throwable error) {
             task.abandon();

@@ -109,6 +109,7 @@ final class Known extends WeakReference<Object> {
         return known == null ? "" : known.name;
     }
 
+    @Apart
     private static Known add(Known known) {
         for (Reference<?> old = gone.poll(); old != null; old = gone.poll()) all.remove(old);
         Known before = all.putIfAbsent(known, known);
@@ -119,9 +120,15 @@ final class Known extends WeakReference<Object> {
         return object instanceof Lock || object instanceof ReadWriteLock || object instanceof StampedLock;
     }
 
+    static boolean isLock(Class<?> type) {
+        return Lock.class.isAssignableFrom(type) || ReadWriteLock.class.isAssignableFrom(type)
+                || StampedLock.class.isAssignableFrom(type);
+    }
+
     // ---- Locks that are made.
 
     /** An object was made that may be used as a lock. */
+    @Apart
     static void made(Object object, Made made, Probe probe) {
         boolean isMonitor = !isLock(object);
         Object base = isMonitor ? object : baseOf(object);
@@ -171,7 +178,12 @@ final class Known extends WeakReference<Object> {
     /** What is known about a lock of java.util.concurrent.locks, or of another class that is used like one. */
     static Known ofLock(Object lock, Probe probe) {
         Known known = probe.find(lock, false);
-        if (known != null) return known;
+        return known != null ? known : addLock(lock, probe);
+    }
+
+    @Apart
+    private static Known addLock(Object lock, Probe probe) {
+        Known known;
         Object base = baseOf(lock);
         if (base == lock) return addEarly(lock, false);
         known = probe.find(base, false);
@@ -182,6 +194,7 @@ final class Known extends WeakReference<Object> {
         return add(new Known(lock, false, lock instanceof ReentrantReadWriteLock.ReadLock, known, null));
     }
 
+    @Apart
     private static Known addEarly(Object object, boolean isMonitor) {
         Known known = new Known(object, isMonitor, false, null, Made.ofObject(object, isMonitor));
         known.isEarly = true;
@@ -217,6 +230,7 @@ final class Known extends WeakReference<Object> {
         return MethodHandles.privateLookupIn(view, MethodHandles.lookup()).findVarHandle(view, "sync", type);
     }
 
+    @Apart
     private static Object baseOf(Object lock) {
         VarHandle reader = ofReader;
         VarHandle writer = ofWriter;
@@ -260,6 +274,7 @@ final class Known extends WeakReference<Object> {
     }
 
     /** A lock that is nested with others gets its own name, if not too many of its class have one. */
+    @Apart
     synchronized void tellApart() {
         if (isApart) return;
         int ordinal = made.nextOrdinal();
@@ -269,6 +284,7 @@ final class Known extends WeakReference<Object> {
 
     // ---- Locks that another thread may release.
 
+    @Apart
     synchronized void addHolder(Task task) {
         int count = holders == null ? 0 : holders.length;
         Task[] more = new Task[count + 1];
@@ -277,6 +293,7 @@ final class Known extends WeakReference<Object> {
         holders = more;
     }
 
+    @Apart
     synchronized void removeHolder(Task task) {
         for (int at = 0; holders != null && at < holders.length; at++) {
             if (holders[at] == task) {

@@ -42,14 +42,26 @@ final class Made {
         return found;
     }
 
+    /** The classes of monitors of objects that unseen code made, by the class of the object. */
+    private static final ClassValue<Made> MONITORS = new ClassValue<>() {
+        @Override
+        protected Made computeValue(Class<?> type) {
+            return ofClass(type, Known.isLock(type) ? ".monitor" : "");
+        }
+    };
+
     /** The class of what unseen code made: that of the object. */
+    @Apart
     static Made ofObject(Object object, boolean isMonitor) {
         if (object instanceof Class) {
             String name = nameOf((Class<?>) object);
             return of(Site.fitting(name + ".class"), Site.placeOfClass(name), "the class object of");
         }
-        String name = nameOf(object.getClass());
-        String suffix = isMonitor && Known.isLock(object) ? ".monitor" : "";
+        return isMonitor ? MONITORS.get(object.getClass()) : ofClass(object.getClass(), "");
+    }
+
+    private static Made ofClass(Class<?> type, String suffix) {
+        String name = nameOf(type);
         return of(Site.fitting(name + suffix), Site.placeOfClass(name), "any object of");
     }
 

@@ -41,8 +41,12 @@ public final class OnLine {
 
     /** Which of the objects of its line a frame makes. */
     static int ordinalOf(StackWalker.StackFrame frame) {
-        return of(frame.getClassName(), frame.getMethodName(), frame.getDescriptor(), frame.getLineNumber())
-                .ordinalAt(frame.getByteCodeIndex());
+        return ordinalOf(frame.getClassName(), frame.getMethodName(), frame.getDescriptor(), frame.getLineNumber(),
+                frame.getByteCodeIndex());
+    }
+
+    static int ordinalOf(String className, String method, String descriptor, int line, int at) {
+        return of(className, method, descriptor, line).ordinalAt(at);
     }
 
     private synchronized int ordinalAt(int at) {

@@ -103,6 +103,7 @@ public final class Recording {
         }
     }
 
+    @Apart
     static void write(Task task) {
         synchronized (it) {
             it.writeRecords(task);
@@ -110,6 +111,7 @@ public final class Recording {
     }
 
     /** Only this many of the records stay that the file has of a task. */
+    @Apart
     static void cut(Task task, int count) {
         synchronized (it) {
             it.put("B " + task.number + " " + count + "\n");

@@ -1,7 +1,9 @@
 package java.lockdep;
 
 import java.util.Arrays;
+import java.util.Iterator;
 import java.util.Set;
+import java.util.concurrent.ConcurrentHashMap;
 
 /** A place of the program that does something with locks: a line of a method. Rewritten code names it by its number. */
 public final class Site {
@@ -9,6 +11,8 @@ public final class Site {
     private static final int MOST_NAME = 53;
     /** Before what a thread is known by. */
     private static final String THREAD = "thread:";
+    /** On the stack of a constructor that looks for its caller. */
+    private static final int FRAMES_OF_RECORDER = 2;
     private static final StackWalker walker = StackWalker.getInstance(Set.of(StackWalker.Option.RETAIN_CLASS_REFERENCE,
             StackWalker.Option.SHOW_REFLECT_FRAMES));
 
@@ -21,23 +25,55 @@ public final class Site {
     private final int ordinal;
     /** For a place in the JDK: the program's own line that led there. */
     private final String caller;
+    private final Call call;
     private Made made;
     private int told;
     private Provoke.Fits fits;
     /** Where the second file of Provoke has it, alone. */
     long[] only;
 
-    private Site(Source source, String method, int line, int ordinal, String caller) {
+    /** The call of a constructor: in what kind of method, of what class, and where in the code. */
+    private static final class Call {
+        final String descriptor;
+        String made;
+        int at;
+
+        Call(String descriptor, String made) {
+            this.descriptor = descriptor;
+            this.made = made;
+        }
+    }
+
+    private Site(Source source, String method, int line, int ordinal, String caller, Call call) {
         this.source = source;
         this.method = method;
         this.line = line;
         this.ordinal = ordinal;
         this.caller = caller;
+        this.call = call;
     }
 
     /** A new place; the number is which of the line's objects is made there, from 1. */
     public static int add(Source source, String method, int line, int ordinal) {
-        return add(new Site(source, method, line, ordinal, ""));
+        return add(new Site(source, method, line, ordinal, "", null));
+    }
+
+    /** A new place where a constructor of a class is called, and is told that. */
+    public static int addCall(Source source, String method, String descriptor, int line, String made) {
+        return add(new Site(source, method, line, 1, "", new Call(descriptor, made)));
+    }
+
+    /** Where in the code the constructor is called. */
+    public static void calledAt(int number, int at) {
+        of(number).call.at = at;
+    }
+
+    /** Whether an object whose constructor runs is what is made here. */
+    boolean makes(Object object) {
+        String name = object.getClass().getName();
+        boolean isSame = name.equals(call.made);
+        if (isSame) call.made = name; // so that they are one text from here on
+        return isSame;
     }
 
     private static synchronized int add(Site site) {
@@ -61,7 +97,7 @@ public final class Site {
         Site site = of(number);
         String caller = walker.walk(frames -> frames.filter(frame -> isOfProgram(frame.getDeclaringClass())).findFirst()
                 .map(frame -> place(frame)).orElse(""));
-        return add(new Site(site.source, site.method, site.line, site.ordinal, "\t" + caller));
+        return add(new Site(site.source, site.method, site.line, site.ordinal, "\t" + caller, null));
     }
 
     /** (Code that calls constructors by reflection has its own loader.) */
@@ -107,11 +143,19 @@ public final class Site {
     /** The class of what is made here. */
     Made made() {
         Made known = made;
-        if (known == null) {
-            String name = source.className + "." + method + ":" + line + suffix(ordinal);
-            known = made = Made.of(fitting(name), place(), "made in");
-        }
-        return known;
+        return known != null ? known : addMade();
+    }
+
+    @Apart
+    private Made addMade() {
+        String name = source.className + "." + method + ":" + where();
+        return made = Made.of(fitting(name), place(), "made in");
+    }
+
+    private String where() {
+        if (call == null) return line + suffix(ordinal);
+        return line > 0 ? line + suffix(OnLine.ordinalOf(source.className, method, call.descriptor, line, call.at))
+                : "+" + call.at;
     }
 
     /** The class of the threads that are started here. */
@@ -124,17 +168,68 @@ public final class Site {
         return known;
     }
 
+    /** A call of a constructor in a class of the program. */
+    private static final class Caller {
+        private final String method;
+        private final String descriptor;
+        private final int at;
+
+        Caller(StackWalker.StackFrame frame) {
+            method = frame.getMethodName();
+            descriptor = frame.getDescriptor();
+            at = frame.getByteCodeIndex();
+        }
+
+        @Override
+        public int hashCode() {
+            return method.hashCode() + 31 * at;
+        }
+
+        @Override
+        public boolean equals(Object other) {
+            return other instanceof Caller && at == ((Caller) other).at && method.equals(((Caller) other).method)
+                    && descriptor.equals(((Caller) other).descriptor);
+        }
+    }
+
+    /** The classes of what each class of the program makes, by the calls of constructors. */
+    private static final ClassValue<ConcurrentHashMap<Caller, Made>> callers = new ClassValue<>() {
+        @Override
+        protected ConcurrentHashMap<Caller, Made> computeValue(Class<?> type) {
+            return new ConcurrentHashMap<>();
+        }
+    };
+
     /**
      * The class of an object whose constructor runs: where it is called. Null if the JDK calls it, as in reflection.
      */
+    @Apart
     static Made madeByCaller(Object object) {
-        return walker.walk(frames -> frames.skip(2).filter(frame -> !isConstructor(frame, object)).findFirst()
-                .filter(frame -> isOfProgram(frame.getDeclaringClass()))
-                .map(frame -> Made.of(fitting(nameOf(frame)), place(frame), "made in")).orElse(null));
+        return walker.walk(frames -> madeByCaller(frames.iterator(), object));
+    }
+
+    private static Made madeByCaller(Iterator<StackWalker.StackFrame> frames, Object object) {
+        for (int left = FRAMES_OF_RECORDER; left > 0; left--) frames.next();
+        while (frames.hasNext()) {
+            StackWalker.StackFrame frame = frames.next();
+            if (!isConstructor(frame, object)) return isOfProgram(frame.getDeclaringClass()) ? madeBy(frame) : null;
+        }
+        return null;
+    }
+
+    @Apart
+    private static Made madeBy(StackWalker.StackFrame frame) {
+        ConcurrentHashMap<Caller, Made> known = callers.get(frame.getDeclaringClass());
+        Caller caller = new Caller(frame);
+        Made made = known.get(caller);
+        if (made != null) return made;
+        made = Made.of(fitting(nameOf(frame)), place(frame), "made in");
+        known.put(caller, made);
+        return made;
     }
 
     private static boolean isConstructor(StackWalker.StackFrame frame, Object object) {
-        return frame.getMethodName().equals("<init>") && frame.getDeclaringClass().isInstance(object);
+        return frame.getDeclaringClass().isInstance(object) && frame.getMethodName().equals("<init>");
     }
 
     /** The end of a name: which of the line's objects it is, unless it is the first. */

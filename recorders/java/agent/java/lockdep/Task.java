@@ -15,6 +15,8 @@ final class Task {
     /** (There is a release for each held lock.) */
     static final int MOST_EVENTS = 1000000 - 2 * MOST_HELD;
 
+    private static final int MOST_RECENT = 15;
+
     private static final VarHandle BUSY;
     private static final ThreadLocal<Task> here = new ThreadLocal<>();
 
@@ -38,6 +40,8 @@ final class Task {
     long fullTraces;
     long unseenReleases;
 
+    /** Where the newest constructor that is told its place is called; 0 once it was asked. */
+    int making;
     boolean isOver;
     private boolean isBusy;
     private Held[] held = new Held[4];
@@ -59,8 +63,8 @@ final class Task {
     private ArrayList<Object> leftOut;
     private Known failed;
     private volatile boolean hasDropped;
-    private final Known[] recent = new Known[4];
-    private int nextRecent;
+    /** Those that were looked up, by the last bits of their hashes. */
+    private final Known[] recent = new Known[MOST_RECENT + 1];
 
     private Task() {
         thread = new WeakReference<>(Thread.currentThread());
@@ -75,12 +79,18 @@ final class Task {
     static Task begin() {
         Task task = here.get();
         if (task == null) task = add();
-        if (task.isBusy || Recording.isOver) return null;
-        task.isBusy = true;
-        if (task.stand != null && task.stand.isAsking) Provoke.run(task.stand);
-        return task;
+        return task.beginAgain() ? task : null;
     }
 
+    /** The running task is busy from here on, unless nothing is to be recorded now. */
+    boolean beginAgain() {
+        if (isBusy || Recording.isOver) return false;
+        isBusy = true;
+        if (stand != null && stand.isAsking) Provoke.run(stand);
+        return true;
+    }
+
+    @Apart
     private static Task add() {
         Task task = new Task();
         task.isBusy = true;
@@ -114,41 +124,61 @@ final class Task {
      * Something went wrong while the task was being examined, for example because the stack is full: its trace ends
      * here, and it stays busy.
      */
+    @Apart
     void abandon() {
         isOver = true;
         Recording.interrupted();
     }
 
+    /** The class of an object whose constructor runs; null if the constructor wasn't told where it is called. */
+    Made toldOf(Object object) {
+        if (making == 0) return null;
+        Site site = Site.of(making);
+        if (!site.makes(object)) return null;
+        making = 0;
+        return site.made();
+    }
+
     // ---- Monitors.
 
     void enter(Object object, int site, boolean isAsked) {
-        for (int at = depth - 1; at >= 0; at--) {
-            if (held[at].object == object) {
-                held[at].levels++;
-                return;
-            }
+        Held again = depth == 0 ? null : find(object);
+        if (again != null) {
+            again.levels++;
+            return;
         }
         if (leftOut != null && isLeftOut(object)) {
             leftOut.add(object);
             return;
         }
-        if (isAsked && stand != null) Provoke.ask(stand, monitor(object), Modes.WRITE, held, depth, site);
-        take(monitor(object), object, Modes.WRITE, site);
+        Known lock = monitor(object);
+        if (isAsked && stand != null) Provoke.ask(stand, lock, Modes.WRITE, held, depth, site);
+        take(lock, object, Modes.WRITE, site);
     }
 
     void exit(Object object) {
         settle();
-        for (int at = depth - 1; at >= 0; at--) {
-            Held entry = held[at];
-            if (entry.object == object) {
-                if (entry.levels > 1) entry.levels--;
-                else giveBack(entry);
-                return;
-            }
-        }
+        Held entry = depth == 0 ? null : find(object);
+        if (entry == null) exitUnseen(object);
+        else if (entry.levels > 1) entry.levels--;
+        else giveBack(entry);
+    }
+
+    @Apart
+    private void exitUnseen(Object object) {
         if (leftOut == null || !leftOut.remove(object)) unseenReleases++;
     }
 
+    /** The held entry of a monitor. */
+    @Apart
+    private Held find(Object object) {
+        for (int at = depth - 1; at >= 0; at--) {
+            if (held[at].object == object) return held[at];
+        }
+        return null;
+    }
+
+    @Apart
     private boolean isLeftOut(Object object) {
         for (Object one : leftOut) {
             if (one == object) return true;
@@ -157,29 +187,26 @@ final class Task {
     }
 
     private Known monitor(Object object) {
-        for (Known known : recent) {
-            if (known != null && known.get() == object && known.isMonitor) return known;
-        }
-        Known known = Known.ofMonitor(object, probe);
-        recent[nextRecent = (nextRecent + 1) & 3] = known;
-        return known;
+        Known known = recent[System.identityHashCode(object) & MOST_RECENT];
+        return known != null && known.get() == object && known.isMonitor ? known : lookUp(object, true);
     }
 
     Known lock(Object lock) {
-        for (Known known : recent) {
-            if (known != null && known.get() == lock && !known.isMonitor) return known;
-        }
-        Known known = Known.ofLock(lock, probe);
-        recent[nextRecent = (nextRecent + 1) & 3] = known;
+        Known known = recent[System.identityHashCode(lock) & MOST_RECENT];
+        return known != null && known.get() == lock && !known.isMonitor ? known : lookUp(lock, false);
+    }
+
+    @Apart
+    private Known lookUp(Object object, boolean asMonitor) {
+        Known known = asMonitor ? Known.ofMonitor(object, probe) : Known.ofLock(object, probe);
+        recent[System.identityHashCode(object) & MOST_RECENT] = known;
         return known;
     }
 
     /** A monitor is released for a while: how often it was taken, 0 if that wasn't seen. */
     int suspend(Object object) {
-        for (int at = depth - 1; at >= 0; at--) {
-            if (held[at].object == object) return suspend(held[at]);
-        }
-        return 0;
+        Held entry = find(object);
+        return entry == null ? 0 : suspend(entry);
     }
 
     void resume(Object object, int levels, int site) {
@@ -240,6 +267,7 @@ final class Task {
     }
 
     /** What was wanted without a record was taken. */
+    @Apart
     private void takeAgain(Known lock) {
         Held entry = again(lock);
         if (entry == null) leaveOut(lock.target);
@@ -252,6 +280,7 @@ final class Task {
         if (wanted != null && wanted == wish) withdraw();
     }
 
+    @Apart
     private void withdraw() {
         Held entry = wish;
         wish = null;
@@ -381,6 +410,7 @@ final class Task {
         if (hasDropped) giveDropped();
     }
 
+    @Apart
     private void giveDropped() {
         hasDropped = false;
         for (int at = depth - 1; at >= 0; at--) {
@@ -398,14 +428,14 @@ final class Task {
     }
 
     /** Adds to what is held, and to the records. Null if there is no room for it. */
+    @Apart
     private Held push(Known lock, Object object, int mode, int site) {
         failed = null;
         if (depth > 0) tellAllApart(lock);
         else if (life != null) lock.tellApartEarly();
         if (depth == MOST_HELD || base + size >= MOST_EVENTS) return null;
-        if (depth == held.length) held = Arrays.copyOf(held, 2 * depth);
-        Held entry = held[depth];
-        if (entry == null) entry = held[depth] = new Held();
+        Held entry = depth < held.length ? held[depth] : null;
+        if (entry == null) entry = addHeld();
         entry.lock = lock;
         entry.object = object;
         entry.code = lock.key << 3 | mode;
@@ -413,19 +443,36 @@ final class Task {
         entry.before = way;
         entry.levels = 1;
         way = way.to(entry.code);
-        append(entry.code, way.isTaken || site == 0 || !Site.of(site).isOfJdk() ? site : Site.withCaller(site));
+        append(entry.code, way.isTaken || site == 0 ? site : placeOf(site));
         if (stand != null && site != 0) Provoke.took(entry, site);
         depth++;
         return entry;
     }
 
+    @Apart
+    private Held addHeld() {
+        if (depth == held.length) held = Arrays.copyOf(held, 2 * depth);
+        return held[depth] = new Held();
+    }
+
+    @Apart
+    private int placeOf(int site) {
+        return Site.of(site).isOfJdk() ? Site.withCaller(site) : site;
+    }
+
+    @Apart
+    private void growRecords() {
+        records = Arrays.copyOf(records, 2 * records.length);
+    }
+
     private void append(int code, int site) {
-        if (2 * size == records.length) records = Arrays.copyOf(records, 2 * records.length);
+        if (2 * size == records.length) growRecords();
         records[2 * size] = code;
         records[2 * size + 1] = site;
         size++;
     }
 
+    @Apart
     private void leaveOut(Object what) {
         if (leftOut == null) leftOut = new ArrayList<>();
         leftOut.add(what);
@@ -434,6 +481,7 @@ final class Task {
     }
 
     /** A way is new to the task. If it is also new to the process, it is written. */
+    @Apart
     private void see() {
         way.isTaken = true;
         fresh = base + size;
@@ -474,6 +522,7 @@ final class Task {
      * just those before it are held: that is where the one before it began, if that is a lock with the same code, or
      * nowhere.
      */
+    @Apart
     private void giveBackEarly(Held entry) {
         int at = depth - 1;
         while (held[at] != entry) at--;
@@ -506,6 +555,7 @@ final class Task {
     }
 
     /** The lock that is held alone gets another one under it: it becomes a single lock, and so does its record. */
+    @Apart
     private void tellHeldApart(Held entry) {
         if (!entry.lock.isApart) entry.lock.tellApart();
         int code = entry.lock.key << 3 | entry.code & 7;

@@ -34,7 +34,11 @@ final class Way {
 
     /** The way with one more lock. */
     Way to(int code) {
-        if (code == lastCode) return last;
+        return code == lastCode ? last : toOther(code);
+    }
+
+    @Apart
+    private Way toOther(int code) {
         Way way = find(code);
         if (way == null) way = add(code);
         lastCode = code;

@@ -39,7 +39,7 @@ final class Wish {
 
     /** An interrupt ended a wait that had no limit: its order stays, as if the lock was taken and given back at once. */
     void breakOff() {
-        if (task == null || Task.begin() == null) return;
+        if (task == null || !task.beginAgain()) return;
         isBrokenOff = true;
         try {
             if (lock.isOfJdk) task.breakOff(wanted);
@@ -51,7 +51,7 @@ final class Wish {
     }
 
     void end(boolean isTaken, int site) {
-        if (isBrokenOff || task == null || Task.begin() == null) return;
+        if (isBrokenOff || task == null || !task.beginAgain()) return;
         try {
             if (!isTaken) task.withdraw(wanted);
             else if (lock.isOfJdk) task.grant(lock, wanted, manner, site);

@@ -1,6 +1,8 @@
 package lockdep.agent;
 
 import java.util.HashMap;
+import java.util.HashSet;
+import java.util.List;
 import java.util.Map;
 import java.util.Set;
 
@@ -40,24 +42,61 @@ final class Calls {
         }
     }
 
+    private static final Set<String> OF_RUNTIME = Set.of("halt(I)V");
+    private static final String MAKER = "newCondition()L" + CONDITION + ";";
+    private static final Words STARTERS = new Words(Set.of("java/lang/Runtime", "java/lang/ProcessBuilder"));
+    private static final Words COLLECTIONS = new Words(Set.of("java/util/Collections"));
+    private static final Set<String> SIGNATURES = new HashSet<>(Set.of(MAKER));
+    /** The names of all calls that are rewritten. */
+    private static final Words NAMES;
+
+    static {
+        for (Set<String> some : List.of(OF_LOCK, OF_CONDITION, OF_STAMPED, VIEWS.keySet(), WAITS, OF_THREAD, OF_RUNTIME)) {
+            SIGNATURES.addAll(some);
+        }
+        Set<String> names = new HashSet<>(Set.of("start", "exec"));
+        for (String signature : SIGNATURES) names.add(signature.substring(0, signature.indexOf('(')));
+        NAMES = new Words(names);
+    }
+
     private Calls() {
     }
 
+    /** Whether a method of a class's constants may be one whose calls are rewritten. */
+    static boolean mayMatter(ClassFile type, int method) {
+        int owner = type.part(type.part(method, 1), 1);
+        int name = type.part(type.part(method, 3), 1);
+        if (COLLECTIONS.has(type, owner)) return type.text(name).startsWith("synchronized");
+        return NAMES.has(type, name) && (STARTERS.has(type, owner) || isReplaced(type, method));
+    }
+
+    private static boolean isReplaced(ClassFile type, int method) {
+        return SIGNATURES.contains(type.nameOfMember(method).concat(type.descriptor(method)));
+    }
+
+    /** Whether a handle of a class's constants is one to a call that is replaced. */
+    static boolean mayBeReference(ClassFile type, int handle) {
+        int kind = type.kindOfHandle(handle);
+        if (kind != Opcodes.H_INVOKEVIRTUAL && kind != Opcodes.H_INVOKEINTERFACE) return false;
+        int method = type.part(handle, 2);
+        return isOfLock(type.owner(method), type.nameOfMember(method), type.descriptor(method));
+    }
+
     /** The type that the call of Hooks has for the call's object; null if the call stays. */
-    static String receiver(MethodInsnNode call, Locking locking) {
+    static String receiver(MethodInsnNode call, Hierarchy hierarchy) {
         if (call.getOpcode() != Opcodes.INVOKEVIRTUAL && call.getOpcode() != Opcodes.INVOKEINTERFACE) return null;
         String signature = call.name + call.desc;
         if (WAITS.contains(signature)) return "java/lang/Object";
         // (as an object of any class, so that the JVM needn't load that class to see that it is a thread)
         if (OF_THREAD.contains(signature)) {
-            return locking.hierarchy.isThread(call.owner, locking.loader) ? "java/lang/Object" : null;
+            return hierarchy.isThread(call.owner) ? "java/lang/Object" : null;
         }
-        if (OF_LOCK.contains(signature)) return isLock(call.owner, locking) ? LOCK : null;
-        if (signature.equals("newCondition()L" + CONDITION + ";")) return isLock(call.owner, locking) ? LOCK : null;
+        if (OF_LOCK.contains(signature)) return isLock(call.owner, hierarchy) ? LOCK : null;
+        if (signature.equals(MAKER)) return isLock(call.owner, hierarchy) ? LOCK : null;
         if (OF_CONDITION.contains(signature)) return call.owner.equals(CONDITION) ? CONDITION : null;
         if (OF_STAMPED.contains(signature)) return call.owner.equals(STAMPED) ? STAMPED : null;
         if (VIEWS.containsKey(signature)) return call.owner.equals(STAMPED) ? STAMPED : null;
-        return signature.equals("halt(I)V") && call.owner.equals("java/lang/Runtime") ? "java/lang/Runtime" : null;
+        return OF_RUNTIME.contains(signature) && call.owner.equals("java/lang/Runtime") ? "java/lang/Runtime" : null;
     }
 
     /** Whether the call of Hooks gets the place of the call. */
@@ -66,9 +105,8 @@ final class Calls {
                 && !VIEWS.containsKey(call.name + call.desc);
     }
 
-    private static boolean isLock(String owner, Locking locking) {
-        return Hierarchy.LOCK.contains(owner) || !owner.startsWith("java/") && locking.hierarchy.isLock(owner,
-                locking.loader);
+    private static boolean isLock(String owner, Hierarchy hierarchy) {
+        return Hierarchy.LOCK.contains(owner) || !owner.startsWith("java/") && hierarchy.isLock(owner);
     }
 
     /** Whether a reference to a method is one to a call that is replaced. */

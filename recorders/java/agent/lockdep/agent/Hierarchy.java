@@ -1,17 +1,24 @@
 package lockdep.agent;
 
+import java.io.File;
+import java.io.FileInputStream;
 import java.io.IOException;
 import java.io.InputStream;
 import java.io.Serializable;
+import java.lang.ref.Reference;
+import java.lang.ref.ReferenceQueue;
+import java.lang.ref.WeakReference;
 import java.util.Set;
-
-import org.objectweb.asm.ClassReader;
+import java.util.concurrent.ConcurrentHashMap;
+import java.util.jar.JarFile;
+import java.util.zip.ZipEntry;
+import java.util.zip.ZipFile;
 
 /**
  * Whether a class of the program is a lock, a thread or serialised: its file names its superclasses, and none of the
- * program's classes is loaded for that.
+ * program's classes is loaded for that. What the files say is kept for each loader, which isn't kept alive.
  */
-final class Hierarchy {
+final class Hierarchy implements AutoCloseable {
     static final String LOCKS = "java/util/concurrent/locks/";
     static final Set<String> LOCK = Set.of(LOCKS + "Lock", LOCKS + "ReentrantLock",
             LOCKS + "ReentrantReadWriteLock$ReadLock",
@@ -23,48 +30,86 @@ final class Hierarchy {
     private static final Set<String> THREAD = Set.of("java/lang/Thread");
     static final int MOST_ABOVE = 16;
 
-    /** Whether a class is a Lock, or one below it. */
-    boolean isLock(String name, ClassLoader loader) {
-        return isBelow(name, loader, LOCK, MOST_ABOVE);
+    private final ClassLoader loader;
+    private final OfLoader known;
+    /** The folder or jar of the class that asks, in which others are looked for first, since that costs less; or null. */
+    private final String location;
+    private JarFile jar;
+
+    Hierarchy(ClassLoader loader, String location) {
+        this.loader = loader;
+        this.location = location;
+        known = OfLoader.of(loader);
     }
 
-    boolean isThread(String name, ClassLoader loader) {
-        return isBelow(name, loader, THREAD, MOST_ABOVE);
+    @Override
+    public void close() throws IOException {
+        if (jar != null) jar.close();
+    }
+
+    /** A class is being loaded. */
+    void add(ClassFile type, Locking locking) {
+        known.classes.put(type.name, new Facts(type, locking));
+    }
+
+    /** Whether a class is a Lock, or one below it. */
+    boolean isLock(String name) {
+        return isBelow(name, LOCK, MOST_ABOVE);
+    }
+
+    boolean isThread(String name) {
+        return isBelow(name, THREAD, MOST_ABOVE);
     }
 
     /** Whether a class waits by AbstractQueuedSynchronizer for itself, and not as a part of a Lock, whose calls are recorded. */
-    boolean isSynchronizer(String name, String superName, ClassLoader loader) {
-        if (!isBelow(superName, loader, SYNCHRONIZER, MOST_ABOVE)) return false;
+    boolean isSynchronizer(String name, String superName) {
+        if (!isBelow(superName, SYNCHRONIZER, MOST_ABOVE)) return false;
         for (int end = name.length(); end > 0; end = name.lastIndexOf('$', end - 1)) {
-            if (isBelow(name.substring(0, end), loader, OF_LOCKS, MOST_ABOVE)) return false;
+            if (isBelow(name.substring(0, end), OF_LOCKS, MOST_ABOVE)) return false;
         }
         return true;
     }
 
-    boolean isBelow(String name, ClassLoader loader, Set<String> wanted, int most) {
+    boolean isBelow(String name, Set<String> wanted, int most) {
         if (wanted.contains(name)) return true;
         if (name == null || most == 0 || name.startsWith("java/") || name.startsWith("[")) return false;
-        ClassReader reader = read(name, loader);
-        if (reader == null) return false;
-        if (isBelow(reader.getSuperName(), loader, wanted, most - 1)) return true;
-        for (String above : reader.getInterfaces()) {
-            if (isBelow(above, loader, wanted, most - 1)) return true;
+        Facts facts = facts(name);
+        if (facts == null) return false;
+        if (isBelow(facts.superName, wanted, most - 1)) return true;
+        for (String above : facts.interfaces) {
+            if (isBelow(above, wanted, most - 1)) return true;
+        }
+        return false;
+    }
+
+    /**
+     * Whether the objects of a class of the program are locked by it or by what is above it, or are locks. It may be said
+     * of one that they aren't.
+     */
+    boolean isOfItself(String name) {
+        String above = name;
+        for (int most = MOST_ABOVE; most > 0 && above != null && !above.startsWith("java/"); most--) {
+            if (above.endsWith("Exception") || above.endsWith("Error") || known.missing.contains(above)) return false;
+            Facts facts = facts(above);
+            if (facts == null) known.missing.add(above);
+            if (facts == null || facts.isOfItself) return facts != null;
+            above = facts.superName;
         }
         return false;
     }
 
     /** Whether a class may be one whose objects are serialised: what is above it says so, or isn't known. */
-    boolean maySerialize(String name, ClassLoader loader, int most) {
+    boolean maySerialize(String name, int most) {
         if (name == null) return false;
         if (name.startsWith("java/")) return isSerializableOfJdk(name);
-        ClassReader reader = most == 0 ? null : read(name, loader);
-        return reader == null || maySerialize(reader.getSuperName(), reader.getInterfaces(), loader, most - 1);
+        Facts facts = most == 0 ? null : facts(name);
+        return facts == null || maySerialize(facts.superName, facts.interfaces, most - 1);
     }
 
-    boolean maySerialize(String superName, String[] interfaces, ClassLoader loader, int most) {
-        if (maySerialize(superName, loader, most)) return true;
+    boolean maySerialize(String superName, String[] interfaces, int most) {
+        if (maySerialize(superName, most)) return true;
         for (String above : interfaces) {
-            if (maySerialize(above, loader, most)) return true;
+            if (maySerialize(above, most)) return true;
         }
         return false;
     }
@@ -77,16 +122,81 @@ final class Hierarchy {
         }
     }
 
-    private static ClassReader read(String name, ClassLoader loader) {
-        String file = name + ".class";
-        try (InputStream bytes = loader == null ? ClassLoader.getSystemResourceAsStream(file)
-                : loader.getResourceAsStream(file)) {
-            if (bytes == null) return null;
-            byte[] all = bytes.readAllBytes();
-            if (all[7] > 64) all[7] = 64;
-            return new ClassReader(all);
+    private Facts facts(String name) {
+        Facts found = known.classes.get(name);
+        if (found != null) return found;
+        ClassFile type = read(name + ".class");
+        if (type == null) return null;
+        found = new Facts(type, new Locking(type));
+        known.classes.put(name, found);
+        return found;
+    }
+
+    private ClassFile read(String file) {
+        try (InputStream near = location == null ? null : openNear(file); InputStream bytes = near != null ? near
+                : loader == null ? ClassLoader.getSystemResourceAsStream(file) : loader.getResourceAsStream(file)) {
+            return bytes == null ? null : new ClassFile(bytes.readAllBytes());
         } catch (IOException | RuntimeException | LinkageError unreadable) {
             return null;
+        }
+    }
+
+    private InputStream openNear(String file) throws IOException {
+        File place = new File(location);
+        if (place.isDirectory()) {
+            File found = new File(place, file);
+            return found.isFile() ? new FileInputStream(found) : null;
+        }
+        if (jar == null) jar = new JarFile(place, false, ZipFile.OPEN_READ, JarFile.runtimeVersion());
+        ZipEntry entry = jar.getEntry(file);
+        return entry == null ? null : jar.getInputStream(entry);
+    }
+
+    /** What the file of a class says of it. */
+    private static final class Facts {
+        final String superName;
+        final String[] interfaces;
+        final boolean isOfItself;
+
+        Facts(ClassFile type, Locking locking) {
+            superName = type.superName;
+            interfaces = type.interfaces;
+            isOfItself = locking.isOfItself();
+        }
+    }
+
+    /** What is known of the classes that a loader finds, which doesn't keep the loader alive. */
+    private static final class OfLoader extends WeakReference<ClassLoader> {
+        private static final ConcurrentHashMap<OfLoader, OfLoader> all = new ConcurrentHashMap<>();
+        private static final ReferenceQueue<ClassLoader> gone = new ReferenceQueue<>();
+        private static final OfLoader BOOT = new OfLoader(null);
+
+        final ConcurrentHashMap<String, Facts> classes = new ConcurrentHashMap<>();
+        final Set<String> missing = ConcurrentHashMap.newKeySet();
+        private final int hash;
+
+        private OfLoader(ClassLoader loader) {
+            super(loader, gone);
+            hash = System.identityHashCode(loader);
+        }
+
+        static OfLoader of(ClassLoader loader) {
+            if (loader == null) return BOOT;
+            for (Reference<?> old = gone.poll(); old != null; old = gone.poll()) all.remove(old);
+            OfLoader made = new OfLoader(loader);
+            OfLoader before = all.putIfAbsent(made, made);
+            return before == null ? made : before;
+        }
+
+        @Override
+        public int hashCode() {
+            return hash;
+        }
+
+        @Override
+        public boolean equals(Object other) {
+            ClassLoader loader = get();
+            return this == other || loader != null && other instanceof OfLoader && ((OfLoader) other).get() == loader;
         }
     }
 }

@@ -14,9 +14,7 @@ import org.objectweb.asm.Handle;
 import org.objectweb.asm.Opcodes;
 import org.objectweb.asm.Type;
 import org.objectweb.asm.tree.AbstractInsnNode;
-import org.objectweb.asm.tree.ClassNode;
 import org.objectweb.asm.tree.FieldInsnNode;
-import org.objectweb.asm.tree.FieldNode;
 import org.objectweb.asm.tree.FrameNode;
 import org.objectweb.asm.tree.InsnList;
 import org.objectweb.asm.tree.InsnNode;
@@ -36,15 +34,18 @@ import org.objectweb.asm.tree.VarInsnNode;
  * synchronized method gets its own frame.
  */
 final class MethodRewriter {
-    private final ClassNode type;
+    private final ClassFile type;
+    private final ClassFile.Method read;
     private final MethodNode method;
     private final Source source;
-    private final Locking locking;
+    private final Wanted wanted;
     private final InsnList code;
     private final Map<Integer, Integer> madeOnLine = new HashMap<>();
     /** The objects that are being made: the names of their classes, null if they aren't kept. */
     private final ArrayDeque<TypeInsnNode> news = new ArrayDeque<>();
     private final List<Noted> noted = new ArrayList<>();
+    /** The places of constructors that are told them. */
+    private final Map<Integer, LabelNode> told = new HashMap<>();
     private boolean isChanged;
     private int line;
 
@@ -61,11 +62,12 @@ final class MethodRewriter {
         }
     }
 
-    MethodRewriter(ClassNode type, MethodNode method, Source source, Locking locking) {
+    MethodRewriter(ClassFile type, ClassFile.Method read, MethodNode method, Source source, Wanted wanted) {
         this.type = type;
+        this.read = read;
         this.method = method;
         this.source = source;
-        this.locking = locking;
+        this.wanted = wanted;
         code = method.instructions;
     }
 
@@ -150,7 +152,7 @@ final class MethodRewriter {
         int depth = source.isOfJdk ? 0 : Calls.depthOfStart(call);
         if (depth == 2) before(call, list(new InsnNode(Opcodes.DUP2), new InsnNode(Opcodes.POP), starts()));
         else if (depth == 1) before(call, list(new InsnNode(Opcodes.DUP), starts()));
-        String receiver = Calls.receiver(call, locking);
+        String receiver = Calls.receiver(call, wanted.hierarchy);
         if (receiver == null) return;
         if (Calls.hasSite(call)) before(call, list(site()));
         String words = call.desc.substring(1, call.desc.indexOf(')')) + (Calls.hasSite(call) ? "I" : "");
@@ -186,19 +188,26 @@ final class MethodRewriter {
     private void endNew(MethodInsnNode call) {
         if (!news.isEmpty() && news.peek().desc.equals(call.owner)) {
             TypeInsnNode made = news.pop();
-            boolean isKept = Locking.realAfter(made) != null && Locking.realAfter(made).getOpcode() == Opcodes.DUP;
-            if (isKept && (locking.isNoted(made.desc) || isKeptInLockedField(call))) noteMade(call);
+            if (wanted.isTold(read, made.desc)) tell(call);
+            boolean isKept = realAfter(made) != null && realAfter(made).getOpcode() == Opcodes.DUP;
+            if (isKept && (wanted.isNoted(made.desc) || isKeptInLockedField(call))) noteMade(call);
         } else if (method.name.equals("<init>") && news.isEmpty() && !call.owner.equals(type.name)
-                && locking.isOfItself) {
+                && wanted.locking.isOfItself()) {
             after(call, list(new VarInsnNode(Opcodes.ALOAD, 0), hook("born", "(Ljava/lang/Object;)V")));
         }
     }
 
+    private static AbstractInsnNode realAfter(AbstractInsnNode from) {
+        AbstractInsnNode after = from.getNext();
+        while (after != null && after.getOpcode() < 0) after = after.getNext();
+        return after;
+    }
+
     private boolean isKeptInLockedField(AbstractInsnNode made) {
-        AbstractInsnNode next = Locking.realAfter(made);
+        AbstractInsnNode next = realAfter(made);
         if (!(next instanceof FieldInsnNode)) return false;
         boolean isStore = next.getOpcode() == Opcodes.PUTFIELD || next.getOpcode() == Opcodes.PUTSTATIC;
-        return isStore && locking.isLocked((FieldInsnNode) next);
+        return isStore && wanted.locking.isLocked(((FieldInsnNode) next).owner, ((FieldInsnNode) next).name);
     }
 
     /** The object on the stack was made on this line. */
@@ -212,8 +221,17 @@ final class MethodRewriter {
         after(made, list(new InsnNode(Opcodes.DUP), number(site), hook("made", "(Ljava/lang/Object;I)V")));
     }
 
+    /** A constructor looks for its caller if it isn't told where it is called, and that costs much. */
+    private void tell(MethodInsnNode call) {
+        int site = Site.addCall(source, method.name, method.desc, line, call.owner.replace('/', '.'));
+        LabelNode constructor = new LabelNode();
+        before(call, list(number(site), hook("makes", "(I)V"), constructor));
+        told.put(site, constructor);
+    }
+
     /** Once the class is written: says where in its code the constructors of noted objects are called. */
     void tellNoted() {
+        told.forEach((site, constructor) -> Site.calledAt(site, constructor.getLabel().getOffset()));
         for (Noted each : noted) {
             int at = each.constructor == null ? -1 : each.constructor.getLabel().getOffset();
             OnLine.note(source, method.name, method.desc, each.line, each.ordinal, at);
@@ -228,7 +246,7 @@ final class MethodRewriter {
      */
     private boolean canBeWrapped() {
         boolean isStatic = (method.access & Opcodes.ACC_STATIC) != 0;
-        if (isStatic) return (type.version & 0xffff) >= Opcodes.V1_5;
+        if (isStatic) return type.version >= Opcodes.V1_5;
         int locals = Type.getArgumentTypes(method.desc).length + 1;
         for (AbstractInsnNode each = code.getFirst(); each != null; each = each.getNext()) {
             boolean isStore = each.getOpcode() >= Opcodes.ISTORE && each.getOpcode() <= Opcodes.ASTORE;
@@ -262,10 +280,7 @@ final class MethodRewriter {
      */
     private boolean isByItself() {
         if (!Provoke.isOn() || source.isOfJdk) return false;
-        for (FieldNode field : type.fields) {
-            if (field.name.equals("serialVersionUID")) return true;
-        }
-        return !locking.hierarchy.maySerialize(type.superName, type.interfaces.toArray(new String[0]), locking.loader,
+        return type.hasSerialVersion || !wanted.hierarchy.maySerialize(type.superName, type.interfaces,
                 Hierarchy.MOST_ABOVE);
     }
 
@@ -289,7 +304,7 @@ final class MethodRewriter {
         entry.add(start);
         code.insert(entry);
         code.add(end);
-        if ((type.version & 0xffff) >= Opcodes.V1_6) {
+        if (type.version >= Opcodes.V1_6) {
             Object[] locals = (method.access & Opcodes.ACC_STATIC) != 0 ? new Object[0] : new Object[] {type.name};
             code.add(new FrameNode(Opcodes.F_FULL, locals.length, locals, 1, new Object[] {"java/lang/Throwable"}));
         }

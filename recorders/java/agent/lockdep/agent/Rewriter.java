@@ -12,11 +12,10 @@ import java.util.ArrayList;
 import java.util.List;
 
 import org.objectweb.asm.ClassReader;
+import org.objectweb.asm.ClassVisitor;
 import org.objectweb.asm.ClassWriter;
+import org.objectweb.asm.MethodVisitor;
 import org.objectweb.asm.Opcodes;
-import org.objectweb.asm.tree.ClassNode;
-import org.objectweb.asm.tree.LineNumberNode;
-import org.objectweb.asm.tree.AbstractInsnNode;
 import org.objectweb.asm.tree.MethodNode;
 
 /** Rewrites the program's classes when they are loaded. One that can't be rewritten is left unchanged, and counted. */
@@ -36,7 +35,6 @@ final class Rewriter implements ClassFileTransformer {
     private static final String[] ALWAYS = {"java/lang/StringBuffer"};
 
     private final String[] jdk;
-    private final Hierarchy hierarchy = new Hierarchy();
 
     Rewriter(String[] jdk) {
         this.jdk = jdk;
@@ -88,28 +86,64 @@ final class Rewriter implements ClassFileTransformer {
         return false;
     }
 
-    private byte[] rewrite(ClassLoader loader, byte[] file, ProtectionDomain domain, boolean isOfJdk) {
-        int version = (file[6] & 255) << 8 | file[7] & 255;
-        byte[] readable = version <= NEWEST ? file : withVersion(file.clone(), NEWEST);
-        ClassReader reader = new ClassReader(readable);
-        ClassNode type = new ClassNode();
-        reader.accept(type, 0);
-        Source source = Source.add(type.name.replace('/', '.'), type.sourceFile, location(domain), firstLine(type),
-                isOfJdk);
-        if (!isOfJdk && hierarchy.isSynchronizer(type.name, type.superName, loader)) Recording.synchronizer();
-        Locking locking = new Locking(type, hierarchy, loader, begins("java/lang/StringBuffer", jdk));
-        List<MethodRewriter> changed = new ArrayList<>();
-        for (MethodNode method : type.methods) {
-            if (method.instructions.size() == 0) continue;
-            MethodRewriter rewriter = new MethodRewriter(type, method, source, locking);
-            if (rewriter.rewrite()) changed.add(rewriter);
+    private byte[] rewrite(ClassLoader loader, byte[] file, ProtectionDomain domain, boolean isOfJdk)
+            throws IOException {
+        ClassFile type = new ClassFile(file);
+        String location = location(domain);
+        Source source = Source.add(type.name.replace('/', '.'), type.sourceFile, location, type.firstLine, isOfJdk);
+        try (Hierarchy hierarchy = new Hierarchy(loader, location)) {
+            if (!isOfJdk && hierarchy.isSynchronizer(type.name, type.superName)) Recording.synchronizer();
+            Locking locking = new Locking(type);
+            hierarchy.add(type, locking);
+            boolean isOfProgram = !isOfJdk && loader != null && loader != ClassLoader.getPlatformClassLoader();
+            Wanted wanted = new Wanted(type, hierarchy, locking, isOfProgram, begins(Locking.BUFFER, jdk));
+            return wanted.hasAny() ? rewrite(type, source, wanted) : null;
         }
-        if (changed.isEmpty()) return null;
+    }
+
+    private static byte[] rewrite(ClassFile type, Source source, Wanted wanted) {
+        ClassReader reader = new ClassReader(type.version <= NEWEST ? type.bytes
+                : withVersion(type.bytes.clone(), NEWEST));
         ClassWriter writer = new ClassWriter(reader, ClassWriter.COMPUTE_MAXS);
-        type.accept(writer);
+        ClassRewriter rewriter = new ClassRewriter(writer, type, source, wanted);
+        reader.accept(rewriter, 0);
+        if (rewriter.changed.isEmpty()) return null;
         byte[] written = writer.toByteArray();
-        for (MethodRewriter rewriter : changed) rewriter.tellNoted();
-        return withVersion(written, version);
+        for (MethodRewriter method : rewriter.changed) method.tellNoted();
+        return withVersion(written, type.version);
+    }
+
+    /** Takes those methods apart that may have something to rewrite. ASM copies the others as they are. */
+    private static final class ClassRewriter extends ClassVisitor {
+        final List<MethodRewriter> changed = new ArrayList<>();
+        private final ClassFile type;
+        private final Source source;
+        private final Wanted wanted;
+        private int next;
+
+        ClassRewriter(ClassWriter writer, ClassFile type, Source source, Wanted wanted) {
+            super(Opcodes.ASM9, writer);
+            this.type = type;
+            this.source = source;
+            this.wanted = wanted;
+        }
+
+        @Override
+        public MethodVisitor visitMethod(int access, String name, String descriptor, String signature,
+                String[] exceptions) {
+            ClassFile.Method read = type.methods[next++];
+            if (!read.isWanted) {
+                return super.visitMethod(access, name, descriptor, signature, exceptions);
+            }
+            return new MethodNode(Opcodes.ASM9, access, name, descriptor, signature, exceptions) {
+                @Override
+                public void visitEnd() {
+                    MethodRewriter rewriter = new MethodRewriter(type, read, this, source, wanted);
+                    if (instructions.size() > 0 && rewriter.rewrite()) changed.add(rewriter);
+                    accept(cv);
+                }
+            };
+        }
     }
 
     private static byte[] withVersion(byte[] file, int version) {
@@ -122,18 +156,5 @@ final class Rewriter implements ClassFileTransformer {
         CodeSource source = domain == null ? null : domain.getCodeSource();
         URL url = source == null ? null : source.getLocation();
         return url == null || !url.getProtocol().equals("file") ? null : url.getPath().replace("%20", " ");
-    }
-
-    /** The first line of a class that has code. */
-    private static int firstLine(ClassNode type) {
-        int first = 0;
-        for (MethodNode method : type.methods) {
-            for (AbstractInsnNode each = method.instructions.getFirst(); each != null; each = each.getNext()) {
-                if (!(each instanceof LineNumberNode)) continue;
-                int line = ((LineNumberNode) each).line;
-                first = first == 0 ? line : Math.min(first, line);
-            }
-        }
-        return first;
     }
 }

@@ -1,0 +1,98 @@
+package lockdep.agent;
+
+import java.util.Set;
+
+import org.objectweb.asm.Opcodes;
+
+/** Which methods of a class may have something to rewrite, and what else rewriting them has to know. */
+final class Wanted {
+    /** Classes of the JDK whose objects are locks, or are often used as such: where they are made is always noted. */
+    private static final Words LOCKS = new Words(Set.of("java/lang/Object", "java/util/Vector", "java/util/Stack",
+            "java/util/Hashtable",
+            "java/util/Properties", Hierarchy.LOCKS + "ReentrantLock", Hierarchy.LOCKS + "ReentrantReadWriteLock",
+            Hierarchy.LOCKS + "StampedLock"));
+    private static final Words BUFFER = new Words(Set.of(Locking.BUFFER));
+
+    /** In a method with more code than this, constructors aren't told where they are called. */
+    private static final int LONGEST = 30000;
+
+    final Hierarchy hierarchy;
+    final Locking locking;
+    /** Whether constructors that are called are told where. */
+    private final boolean tells;
+    /** Whether string buffers are recorded. Otherwise they aren't noted, since there are too many of them. */
+    private final boolean hasBuffers;
+    private final ClassFile type;
+    /** The constants of the class that make an instruction with them one that may be rewritten. */
+    private final boolean[] constants;
+
+    Wanted(ClassFile type, Hierarchy hierarchy, Locking locking, boolean tells, boolean hasBuffers) {
+        this.type = type;
+        this.tells = tells;
+        this.hierarchy = hierarchy;
+        this.locking = locking;
+        this.hasBuffers = hasBuffers;
+        constants = new boolean[type.countOfConstants()];
+        boolean hasReference = false;
+        for (int each = 1; each < constants.length; each++) {
+            constants[each] = matters(each);
+            hasReference |= type.kind(each) == ClassFile.HANDLE && Calls.mayBeReference(type, each);
+        }
+        if (hasReference) addDynamicCalls();
+        for (ClassFile.Method method : type.methods) look(method);
+    }
+
+    /** Whether it is always noted where objects of a class are made. */
+    boolean isNoted(String name) {
+        return LOCKS.has(name) || hasBuffers && BUFFER.has(name);
+    }
+
+    /** Whether any method may be rewritten. */
+    boolean hasAny() {
+        for (ClassFile.Method method : type.methods) {
+            if (method.isWanted) return true;
+        }
+        return false;
+    }
+
+    private boolean matters(int constant) {
+        switch (type.kind(constant)) {
+            case ClassFile.CLASS:
+                int name = type.part(constant, 1);
+                return LOCKS.has(type, name) || hasBuffers && BUFFER.has(type, name);
+            case ClassFile.METHOD:
+            case ClassFile.METHOD_OF_INTERFACE:
+                return Calls.mayMatter(type, constant);
+            case ClassFile.FIELD: // what is made may be kept there
+                return locking.locksFields() && locking.isLocked(type.owner(constant), type.nameOfMember(constant));
+            default:
+                return false;
+        }
+    }
+
+    private void addDynamicCalls() {
+        for (int each = 1; each < constants.length; each++) constants[each] |= type.kind(each) == ClassFile.DYNAMIC_CALL;
+    }
+
+    private void look(ClassFile.Method method) {
+        method.isWanted = method.isSynchronized() || method.isConstructor && locking.isOfItself();
+        for (int at = method.start; at < method.end && !method.isWanted; at = type.after(at, method)) {
+            int opcode = type.opcode(at);
+            if (opcode >= Opcodes.PUTSTATIC) method.isWanted = matters(opcode, at);
+        }
+    }
+
+    private boolean matters(int opcode, int at) {
+        if (opcode > Opcodes.NEW) return opcode == Opcodes.MONITORENTER || opcode == Opcodes.MONITOREXIT;
+        return opcode != Opcodes.GETFIELD && constants[type.number(at + 1)];
+    }
+
+    /**
+     * Whether a constructor that is called in a method to be rewritten is told where. (In others it isn't, since to take
+     * these apart costs more.) One that the constructor of a class above it calls has the place where that one is called.
+     */
+    boolean isTold(ClassFile.Method method, String made) {
+        return tells && method.end - method.start < LONGEST && hierarchy.isOfItself(made)
+                && !(method.isConstructor && hierarchy.isBelow(made, Set.of(type.name), Hierarchy.MOST_ABOVE));
+    }
+}
