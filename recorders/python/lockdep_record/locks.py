@@ -145,6 +145,8 @@ class lock(Replaced, metaclass=Kind):
         return self
 
     def acquire(self, blocking=True, timeout=-1):
+        if blocking is not True and blocking is not False:
+            allocate().acquire(blocking)  # (which raises the error, if it isn't taken for true or false)
         inner = self._lockdep_inner
         if timeout == -1 and inner.acquire(False):
             try:
@@ -155,7 +157,9 @@ class lock(Replaced, metaclass=Kind):
             return True
         return take(self._lockdep_record, inner, blocking, timeout)
 
-    def __enter__(self):
+    def __enter__(self, *words, **named):  # (the real one takes what `acquire` takes)
+        if words or named:
+            return self.acquire(*words, **named)
         inner = self._lockdep_inner
         if inner.acquire(False):
             try:
@@ -173,7 +177,7 @@ class lock(Replaced, metaclass=Kind):
         finally:
             inner.release()
 
-    def __exit__(self, kind, value, trace):
+    def __exit__(self, *words):  # (as with the real one, none is needed)
         inner = self._lockdep_inner
         try:
             gave(self._lockdep_record, inner)
@@ -211,6 +215,8 @@ class RLock(Replaced):
         return self
 
     def acquire(self, blocking=True, timeout=-1):
+        if blocking is not True and blocking is not False:
+            RealRLock().acquire(blocking)
         inner = self._lockdep_inner
         if timeout == -1 and inner.acquire(False):
             levels = self._lockdep_levels = self._lockdep_levels + 1
@@ -242,7 +248,7 @@ class RLock(Replaced):
         finally:
             self._lockdep_inner.release()
 
-    def __exit__(self, kind, value, trace):
+    def __exit__(self, *words):
         try:
             if self._lockdep_levels == 1 and self._lockdep_inner._is_owned():
                 self._give_last()

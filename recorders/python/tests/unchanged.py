@@ -32,6 +32,10 @@ for each in (lock, again):
     print(tried(each.acquire, False, 1), tried(each.acquire, True, -2), tried(each.acquire, timeout=1e20), tried(each.acquire, True, None))
     print(tried(each.acquire), tried(each.acquire, False), shown(repr(each)), tried(each.release))
 print(lock.locked(), lock.acquire(1), lock.locked(), lock.acquire(0), lock.release())
+for each in (lock, again):
+    print(each.acquire(), each.__exit__(), each.__enter__(False), each.__exit__(1), each.__enter__(True, 0.5), each.__exit__(1, 2, 3, 4))
+    for flag in (2 ** 70, "x", 1.5, None):
+        print(tried(each.acquire, flag), tried(each.release))
 print(hex(id(lock)) in repr(lock), hex(id(again)) in repr(again))
 print(hasattr(again, "locked"), hasattr(lock, "locked"), hasattr(again, "_recursion_count"), hasattr(again, "_owner"), hasattr(again, "__dict__"))
 print(threading.RLock.__name__, type(threading.RLock), threading._CRLock is type(again), threading._RLock is threading._PyRLock)
