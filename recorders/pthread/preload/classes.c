@@ -260,14 +260,17 @@ static bool is_outdated(uintptr_t lock, uint32_t object, struct call call) {
     return frame_with(lock, call, &function, &offset) && (function != class->word || offset != class->offset);
 }
 
-/* Whether any process has initialised a lock that processes share since it is known as this object. Files that are locked themselves aren't
-   initialised. */
-bool is_initialised_since(uint32_t object) {
+/* Whether processes share the lock in memory: files that are locked themselves are shared otherwise, and aren't initialised. */
+bool is_in_shared_memory(uint32_t object) {
     const struct raw_object *o = part_of(RAW_OBJECTS, object);
     const struct raw_class *class = part_of(RAW_CLASSES, o->class);
-    if (LIKELY(o->ordinal != RAW_SHARED) || (class->kind == CLASS_FILE && class->offset == RAW_WHOLE_FILE))
-        return false;
-    return generation_of(o->file, o->offset) != o->generation;
+    return RARELY(o->ordinal == RAW_SHARED) && !(class->kind == CLASS_FILE && class->offset == RAW_WHOLE_FILE);
+}
+
+/* Whether any process has initialised a lock that processes share since it is known as this object. */
+bool is_initialised_since(uint32_t object) {
+    const struct raw_object *o = part_of(RAW_OBJECTS, object);
+    return is_in_shared_memory(object) && generation_of(o->file, o->offset) != o->generation;
 }
 
 /* What the program says of it stays; else it is known by where it is, until it is known who has initialised it. */

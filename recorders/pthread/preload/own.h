@@ -327,6 +327,7 @@ static inline uint32_t class_of(uint32_t object) { return ((struct raw_object *)
 static inline bool is_signal(uint32_t object) { return LOAD(&((struct raw_object *)part_of(RAW_OBJECTS, object))->is_signal); }
 bool is_single(uint32_t object);
 bool is_initialised_since(uint32_t object); /* the lock isn't this object any more */
+bool is_in_shared_memory(uint32_t object);
 bool is_lasting(uint32_t object, bool is_nested);
 const uint8_t *looks_left_at(uint32_t class);
 bool is_mapped_place(uint32_t place);

@@ -1375,8 +1375,11 @@ void look_at_inherited(struct call call) {
     leave();
 }
 
+/* A lock that processes share has one holder: who held it at the fork still does. Those of files are the child's as well. */
+static bool is_of_parent(const struct held *h) { return h->kind <= KIND_SPIN && is_in_shared_memory(object_of(h)); }
+
 static void take_over(struct thread *t, const struct held *h) {
-    if (h->is_wish || is_released_by_other(h) || is_free(h) || !has_entry_left(t))
+    if (h->is_wish || is_released_by_other(h) || is_free(h) || is_of_parent(h) || !has_entry_left(t))
         return;
     push_held(t, h->lock, object_of(h), mode_with_weak(h), (enum kind)h->kind, HERE, false);
     t->entries[t->depth - 1].held.depth = h->depth;
