@@ -14,6 +14,8 @@ HEADER = struct.Struct("<16xHHIQQQIHHHHHH")
 SECTION = struct.Struct("<IIQQQQIIQQ")
 SYMBOL = struct.Struct("<IBBHQQ")
 TABLES = (2, 11)  # the sections .symtab and .dynsym
+NAMES = 3  # sections of names, such as those of the sections
+DEBUG_INFORMATION = b"\0.debug_info\0"
 FUNCTIONS = (2, 10)  # functions, and such as are chosen when they are loaded
 MOST_OF_TABLE = 1 << 28  # bytes
 UNDEFINED = 0
@@ -49,6 +51,15 @@ def machine_and_sections(file: BinaryIO) -> tuple[int, list[Section]]:
     file.seek(offset)
     sections = file.read(size * count)
     return machine, [Section(*words) for words in SECTION.iter_unpack(sections[:len(sections) - len(sections) % size])]
+
+
+def has_debug_information(program: str) -> bool:
+    """Whether a program has debug information in its own file; of one that can't be read that isn't known, as if it had."""
+    try:
+        with open(bytes_of(program), "rb") as file:
+            return any(DEBUG_INFORMATION in section.content(file) for section in machine_and_sections(file)[1] if section.kind == NAMES)
+    except (OSError, struct.error, MemoryError):
+        return True
 
 
 def whole_entries(table: bytes, entry: struct.Struct) -> Iterator[tuple[int, ...]]:

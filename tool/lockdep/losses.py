@@ -200,6 +200,7 @@ NOTES: dict[str, tuple[str, ...]] = {
     "passed-programs": ("programs with locks that are not those of pthreads",),
     "passed-parking-lot": ("programs with locks of the crate parking_lot, which were not looked at",),
     "passed-std-locks": ("crates with locks of the standard library itself, which were not looked at",),
+    "unknown-std-locks": ("programs without debug information: whether their crates take locks of the standard library itself isn't known",),
     "passed-libraries": ("libraries with locks that are not those of pthreads, which were not looked at",),
     "passed-pthreads": ("files with locks of pthreads, which were not looked at",),
 }

@@ -99,12 +99,14 @@ class Rust(Recorder):
         return finish(path, raw)
 
     def note_others(self, raw: str, program: str, summary: Summary, look: str, is_passed: bool) -> None:
+        from .elf import has_debug_information
         from .finish_rust import programs
         from .rust_locks import takers
         from .summary import File
         ran = programs(raw)
         summary.add("passed-parking-lot" if is_passed else "parking-lot", [File(program) for program in ran if has(mapped(program), PARKING_LOT)])
         summary.add("passed-std-locks" if is_passed else "std-locks", [File(program, None, taker) for program in ran for taker in takers(program)])
+        summary.add("unknown-std-locks", [File(program) for program in ran if not has_debug_information(program)])
 
 
 class Go(Recorder):

@@ -111,6 +111,7 @@ LISTS: tuple[tuple[tuple[str, ...], str, str, str], ...] = (
      "if these don't matter, `--recorder rust` has the rest judged"),
     (("std-locks", "passed-std-locks"), "locks of the standard library itself weren't looked at. These crates take some:", "std-locks",
      "if these don't matter, `--recorder rust` has the rest judged"),
+    (("unknown-std-locks",), "whether crates take locks of the standard library itself isn't known of these, which have no debug information:", "", ""),
     (("other-libraries", "passed-libraries"), "these libraries have other locks than those of pthreads, and a report of this recording says nothing of them:",
      "other-libraries", "if these don't matter, name the recorder of the program's own locks by --recorder, and the rest is judged"),
     (("other-pthreads",), "locks of pthreads weren't looked at: `--recorder pthread` sees them. These files take such locks:", "other-pthreads",
