@@ -246,7 +246,7 @@ final class MethodRewriter {
      */
     private boolean canBeWrapped() {
         boolean isStatic = (method.access & Opcodes.ACC_STATIC) != 0;
-        if (isStatic) return type.version >= Opcodes.V1_5;
+        if (isStatic) return true;
         int locals = Type.getArgumentTypes(method.desc).length + 1;
         for (AbstractInsnNode each = code.getFirst(); each != null; each = each.getNext()) {
             boolean isStore = each.getOpcode() >= Opcodes.ISTORE && each.getOpcode() <= Opcodes.ASTORE;
@@ -295,11 +295,11 @@ final class MethodRewriter {
         }
         LabelNode start = new LabelNode();
         LabelNode end = new LabelNode();
-        InsnList entry = list(owner(), site(), isByItself ? enter() : hook("entered", "(Ljava/lang/Object;I)V"));
+        InsnList entry = behindOwner(site(), isByItself ? enter() : hook("entered", "(Ljava/lang/Object;I)V"));
         if (isByItself) {
             LabelNode first = new LabelNode();
             entry.insert(list(first, new LineNumberNode(line, first)));
-            entry.add(list(owner(), new InsnNode(Opcodes.MONITORENTER)));
+            entry.add(behindOwner(new InsnNode(Opcodes.MONITORENTER)));
         }
         entry.add(start);
         code.insert(entry);
@@ -315,14 +315,20 @@ final class MethodRewriter {
     }
 
     private InsnList exits(boolean isByItself) {
-        InsnList exits = list(owner(), exit());
-        if (isByItself) exits.add(list(owner(), new InsnNode(Opcodes.MONITOREXIT)));
+        InsnList exits = behindOwner(exit());
+        if (isByItself) exits.add(behindOwner(new InsnNode(Opcodes.MONITOREXIT)));
         return exits;
     }
 
-    private AbstractInsnNode owner() {
-        boolean isStatic = (method.access & Opcodes.ACC_STATIC) != 0;
-        return isStatic ? new LdcInsnNode(Type.getObjectType(type.name)) : new VarInsnNode(Opcodes.ALOAD, 0);
+    /** The object whose monitor the method takes, and what is done with it. Before version 49 no constant is a class. */
+    private InsnList behindOwner(AbstractInsnNode... parts) {
+        InsnList list = new InsnList();
+        if ((method.access & Opcodes.ACC_STATIC) == 0) list.add(new VarInsnNode(Opcodes.ALOAD, 0));
+        else if (type.version >= Opcodes.V1_5) list.add(new LdcInsnNode(Type.getObjectType(type.name)));
+        else list.add(list(new LdcInsnNode(type.name.replace('/', '.')), new MethodInsnNode(Opcodes.INVOKESTATIC,
+                "java/lang/Class", "forName", "(Ljava/lang/String;)Ljava/lang/Class;", false)));
+        list.add(list(parts));
+        return list;
     }
 
     private int firstLine() {
