@@ -124,14 +124,15 @@ def chain_of(frame):
 known_withs = {}  # whether a lock is taken by `with`, by the file, the first line of the function and the instruction
 
 
-def chain_or_frame(frame):
-    """The frames of a place, after which it is known whether a `with` is there."""
-    if frame is not None:
-        code, at = frame.f_code, frame.f_lasti
-        site = code.co_filename, code.co_firstlineno, at
+def chain_noting_with(frame):
+    """The frames of a place, after which it is known whether a `with` of the library is there."""
+    chain = chain_of(frame)
+    code = frame.f_code if frame is not None else None
+    if code is not None and kinds.get(code.co_filename) == LIBRARY and code.co_filename[:1] != "<":
+        site = code.co_filename, code.co_firstlineno, frame.f_lasti
         if site not in known_withs:
-            known_withs[site] = kinds.get(site[0]) == LIBRARY and site[0][:1] != "<" and not code.co_flags & SUSPENDED and is_with(code, at)
-    return chain_of(frame)
+            known_withs[site] = not code.co_flags & SUSPENDED and is_with(code, frame.f_lasti)
+    return chain
 
 
 def is_with(code, at):
@@ -477,7 +478,7 @@ def took(lock, mode):
                   and find_greenlet is None):
                 records.append((code, frame, frame.f_lasti))
             else:
-                records.append((code, chain_or_frame(frame), None))
+                records.append((code, chain_noting_with(frame), None))
             entry = lock.entry = (lock.spare if lock.entry is None else None) or spare_of(lock)
             entry.task, entry.code, entry.record, entry.start, entry.before = task, code, record, record, before
             held.append(entry)
