@@ -8,15 +8,14 @@ import re
 from . import losses
 from .building import is_preloadable, recorder_folder
 from .finishing import MOST_KEYS, MOST_TRACES, trace_name
-from .folder import LIVES, OBJECTS, TASKS, WEAK, Folder, remove_tree
+from .folder import INSIDE, LIVES, OBJECTS, STAGE, TASKS, WEAK, Folder, remove_tree
 from .processes import find_command, output_of, run
-from .recording import STAGE, is_of_musl, with_asan_after
+from .recording import is_of_musl, with_asan_after
 from .programs import Files
 from .saying import Refusal
 from .summary import Count, File, Summary, put, read
 
 VARIABLE = "LOCKDEP_LIBRARIES"  # names the folder that the preloaded recorder writes to
-INSIDE = "libraries"  # in the recording: a folder with a recording of its own
 OF_PROCESSES = (".arena", ".refused")  # end the names of files in it
 RIGHTS = 0o1777  # a program may give up its rights before it loads a library
 TASK = re.compile(r"\btask-([0-9]{4,})\b")

@@ -8,7 +8,7 @@ import os
 import sys
 
 from .building import is_preloadable, recorder_folder
-from .folder import Folder, checked, remove_tree
+from .folder import STAGE, Folder, checked, remove_tree
 from .processes import become, find_command
 from .recorders import RECORDERS, Recorder
 from .saying import RUN, Refusal, say_refusal, typed, write_error
@@ -23,7 +23,6 @@ ALL = "all"
 OF_SIGNALS, SIGNALS = "LOCKDEP_SIGNALS", ("off", "locks", ALL)  # what is recorded of signal handlers: `locks`, if it isn't set
 MUSL = b"/ld-musl"  # in the head of a program whose loader would end it because of what is preloaded
 HEAD = 4096
-STAGE = ".lockdep-recorder"  # links to the recorder, if LD_PRELOAD can't name where it is
 ASAN = "verify_asan_link_order"  # without it, a program with gcc's address sanitizer doesn't start after another library
 
 
@@ -258,7 +257,7 @@ def become_script(home: str, folder: Folder) -> None:
     """Becomes what makes the traces, if they are those of a recorder that does all by itself."""
     script = RECORDERS[folder.mark() or ""].script if folder.mark() in RECORDERS else None
     if script:
-        become([sys.executable, os.path.join(home, "recorders", script), "--finish", folder.path], os.environ)
+        become([sys.executable, "-S", os.path.join(home, "recorders", script), "--finish", folder.path], os.environ)
 
 
 def summary_again(home: str, path: str, accepted: list[str]) -> int:

@@ -1,6 +1,6 @@
 """What the recorders whose traces are made here have in common: their command line, and the recorded command."""
+import _signal as signal  # what `signal` puts around it takes longer to import than all of this
 import os
-import signal
 import sys
 from time import monotonic, sleep
 
@@ -152,7 +152,8 @@ def command_end(status):
     """How the command ended, unless well."""
     if not status:
         return ""
-    name = signal.Signals(status - 128).name if status - 128 in signal.valid_signals() else None
+    from signal import Signals
+    name = Signals(status - 128).name if status - 128 in signal.valid_signals() else None
     return " (the command ended with status %d%s)" % (status, ", as by " + name if name else "")
 
 

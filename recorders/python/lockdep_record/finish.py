@@ -1,10 +1,9 @@
 """Makes traces from what the processes of a recording wrote (`recording` describes the format of their files)."""
 import os
-import re
 from binascii import crc32
 
-from . import sets, starts
-from .folder import HOME, finishing, joins as joining, losses
+from . import sets
+from .folder import driver, finishing, joins as joining, losses
 from .folder import summary as summaries
 
 MOST_ALIKE = 2
@@ -12,13 +11,11 @@ RELEASE = 2
 WORDS = ("w", "tw", None, "r", "tr", "r", "w", "w")  # of the modes; None is a release
 TIMED = (5, 6)  # modes of waits that give up at a time
 WEAK = {**dict.fromkeys(TIMED, "timed"), 7: "ended-thread"}  # what `weak` says of modes; the last is of a thread that had ended when it was joined
-FILE = re.compile(r"[0-9]+-[0-9]+")  # the name of a process's file
 MOST_HELD = 48  # locks that a trace has at a time
 LIFE = "life"  # the key of a thread in its own trace
 LIBRARY = "library"  # the kind of a class that the standard library makes for itself
 KEPT_KINDS = ("any object of", "the class object of", joining.STARTED)  # kinds of classes; all others are made somewhere
 
-LONGEST_COMMAND = 160
 
 class Task:
     """The records of a task, each a code and a place."""
@@ -132,21 +129,9 @@ class Process:
         elif kind == "L":
             self.words = [word for word in rest.split("\t") if word]
         elif kind == "X":
-            self.add_start(Start(*rest.split(" ", 3)))
+            self.starts.append(rest)
         else:
             self.take_record(kind, list(map(int, rest.split())))
-
-    def add_start(self, start):
-        """A program that the process started. What a Java program starts is only named in its file, unless it is Java and recorded too."""
-        if start.kind != STARTED:
-            self.starts.append(start)
-            return
-        for line in starts.from_java([start.path] + start.words):
-            found = Start(*line.rstrip("\n")[2:].split(" ", 3))
-            if found.kind == starts.PYTHON:
-                found.kind, found.reason = OTHER_PYTHON, "python"
-            if found.kind != starts.JAVA or start.reason != "recorded":
-                self.starts.append(found)
 
     def task(self, number):
         if number not in self.tasks:
@@ -178,53 +163,6 @@ class Process:
         may come after its lock in the file, or be missing if the process was killed."""
         of, ordinal = self.keys.get(number, (0, 0))
         return self.classes.get(of) or self.names.class_of("unknown", "?:0 ?", ""), ordinal, self.number
-
-
-class Start:
-    """A program that a recorded process started."""
-
-    def __init__(self, kind, is_exact, reason, rest):
-        self.kind, self.reason = kind, reason
-        self.path, *words = rest.split("\t")
-        self.words = [word for word in words if word] if is_exact == "1" else []
-
-    def is_of(self, words):
-        """Whether a process that these words started may be this one. A script's interpreter comes before the words of its start."""
-        return not self.words or words[-len(self.words):] == self.words
-
-    def text(self):
-        name = " ".join([self.path] + self.words)
-        return name if len(name) <= LONGEST_COMMAND else name[:LONGEST_COMMAND - 3] + "..."
-
-
-# The kinds of starts of a Java program's: one whose program isn't looked at yet, and one of a Python.
-STARTED, OTHER_PYTHON = "started", "other-python"
-OTHERS = (OTHER_PYTHON,) + starts.OTHERS
-
-
-def unreached(processes):
-    """The starts of Pythons that weren't recorded: those that none of the processes is. What is known best comes first."""
-    left = [process.words for process in processes if process.words is not None]
-    pythons = [start for process in processes for start in process.starts if start.kind == starts.PYTHON]
-    found = []
-    for start in sorted(pythons, key=lambda start: -len(start.words)):
-        own = next((words for words in left if start.is_of(words)), None) if start.reason == "-" else None
-        if own is None:
-            found.append(start)
-        else:
-            left.remove(own)
-    return found
-
-
-def count_of(code, of, is_counted=True, reasons=losses.REASONS_OF_STARTS):
-    """Starts as a count of SUMMARY, with how often there was each. They are named even if they don't count as left out."""
-    times = {}
-    for start in of:
-        line = start.text(), reasons.get(start.reason)
-        times[line] = times.get(line, 0) + 1
-    notes = ["  " + summaries.File(text, count, why).text(None) for (text, why), count in times.items()]
-    words = losses.words_of(code, "python")
-    return [summaries.Count(code if is_counted else code + ", not counted", len(of) if is_counted else None, words, notes)] if of else []
 
 
 class Class:
@@ -331,6 +269,12 @@ class Trace(finishing.Trace):
         self.ending.update([len(self.by_lock) - 1] if code & 7 in WEAK else [])
 
 
+def is_of_process(name):
+    """Whether a file of this name is that of a process."""
+    process, _, number = name.partition("-")
+    return driver.is_number(process) and driver.is_number(number)
+
+
 def began(path):
     """When a process began to write its file."""
     with open(path, encoding="utf-8", errors="replace") as file:
@@ -341,7 +285,7 @@ def began(path):
 def read_all(raw):
     """The processes of a recording, those that began first coming first."""
     names, processes = Names(), []
-    for path in sorted((os.path.join(raw, name) for name in os.listdir(raw) if FILE.fullmatch(name)), key=began):
+    for path in sorted((os.path.join(raw, name) for name in os.listdir(raw) if is_of_process(name)), key=began):
         process = Process(len(processes) + 1, names)
         process.read(path)
         processes.append(process)
@@ -403,7 +347,6 @@ def write_all(folder, names, processes, tally):
 def write_traces(raw, folder, recorder, is_chosen):
     """Writes the traces of a recording and its classes. Both recorders that use this write such files. The result is what was counted. Programs with
     locks of other kinds count as left out unless the user chose this recorder."""
-    from lockdep.libraries import note_others
     names, processes = read_all(raw)
     tally = finishing.Tally(recorder)
     for process in processes:
@@ -411,16 +354,15 @@ def write_traces(raw, folder, recorder, is_chosen):
             tally.add({"alike": "threads-alike"}.get(name, name), count)
         tally.add("still-running", finishing.is_running(process.pid))
     of_signals = write_all(folder, names, processes, tally)
-    started = [start for process in processes for start in process.starts]
     counts = tally.recorded(len([process for process in processes if not process.is_inner]), len(names.used)) + tally.counts(summaries.NOTED) + why_nothing(recorder, tally, processes, names.used)
-    counts += count_of("unreached-runs", unreached(processes))
-    counts += count_of("pthread-runs", [start for start in started if start.kind == starts.PTHREAD], not is_chosen, {})
-    counts += count_of("other-runs", [start for start in started if start.kind in OTHERS], not is_chosen)
+    if any(process.starts for process in processes):
+        from . import started
+        counts += started.counts_of(processes, is_chosen)
     summary = summaries.Summary(counts + tally.counts(finishing.LOSSES) + of_signals)
     libraries = dict.fromkeys(library for process in processes for library in process.libraries)
-    found = [summaries.File(path) for path, is_watched in libraries if not is_watched and starts.calls_pthreads(path)]
-    summary.add("passed-pthreads" if is_chosen else "other-pthreads", found)
-    note_others(HOME, summary, list(dict.fromkeys(path for path, _ in libraries)), is_chosen)
+    if libraries:
+        from . import started
+        started.add_libraries(summary, libraries, is_chosen)
     return summary
 
 
