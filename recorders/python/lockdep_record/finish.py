@@ -8,9 +8,11 @@ from .folder import summary as summaries
 
 MOST_ALIKE = 2
 RELEASE = 2
+RECORDS = frozenset("AR")  # begin lines with an acquisition or a release
 WORDS = ("w", "tw", None, "r", "tr", "r", "w", "w")  # of the modes; None is a release
 TIMED = (5, 6)  # modes of waits that give up at a time
 WEAK = {**dict.fromkeys(TIMED, "timed"), 7: "ended-thread"}  # what `weak` says of modes; the last is of a thread that had ended when it was joined
+FITTING = frozenset(map(chr, range(ord("!"), ord("~") + 1))) - frozenset(',"')  # letters that a class's name may have
 MOST_HELD = 48  # locks that a trace has at a time
 LIFE = "life"  # the key of a thread in its own trace
 LIBRARY = "library"  # the kind of a class that the standard library makes for itself
@@ -67,21 +69,38 @@ class Process:
         self.classes, self.keys, self.places, self.tasks, self.counts = {}, {}, {}, {}, {}
         self.words, self.starts, self.joins, self.libraries = None, [], None, []
         self.sources, self.runs, self.reentrant, self.lines = {}, {}, set(), 0
+        self.left_out, self.taken = set(), {}  # the threads that aren't written, by their keys; and what traces take, by the codes of records
         self.is_inner = False  # an interpreter beside the main one of a process, which is counted
 
     def read(self, path):
         if os.path.exists(path + ".lost") or not os.path.getsize(path):
             self.counts["unwritten"] = 1
         with open(path, encoding="utf-8", errors="replace") as file:
-            for line in file:
-                if line.endswith("\n"):
-                    try:
-                        self.take(line[:-1])
-                    except (ValueError, IndexError, KeyError):
-                        self.counts["unwritten"] = 1
+            self.take_all(file.read().split("\n")[:-1])  # (a last line without an end was cut off)
         threads = {key for key, (made, _) in self.keys.items() if made in self.classes and self.classes[made].kind == joining.STARTED}
         self.joins = joining.Joins(threads, self.tasks.values())
+        self.left_out = {key for key in threads if not self.joins.is_kept(key)}
         self.join_parts()
+
+    def take_all(self, lines):
+        """Takes the lines of the file. Most are records, and what one says was mostly said by another before, so it is known by its text."""
+        tasks, records = {}, {}
+        for self.lines, line in enumerate(lines, 1):
+            try:
+                if line[:1] not in RECORDS:
+                    self.take(line)
+                    continue
+                _, number, text = line.split(" ", 2)
+                task, record = tasks.get(number), records.get(text)
+                if task is None or record is None:
+                    self.take(line)
+                    task = tasks[number] = self.tasks[int(number)]
+                    records[text] = task.records[-1]
+                    continue
+                task.records.append(record)
+                task.last = self.lines
+            except (ValueError, IndexError, KeyError):
+                self.counts["unwritten"] = 1
 
     def join_parts(self):
         """Puts the traces of a task together. The main thread's are all those of tasks that handlers may come in at."""
@@ -95,9 +114,11 @@ class Process:
         return self.sources[number].key if number in self.sources else None
 
     def take(self, line):
-        self.lines += 1
         kind, _, rest = line.partition(" ")
-        if kind == "process":
+        if kind == "S":
+            name, count = rest.split()
+            self.counts[name] = int(count)
+        elif kind == "process":
             words = rest.split()
             self.pid, self.began, self.is_inner = int(words[0]), int(words[1]), words[2:] == ["inner"]
         elif kind == "C":
@@ -108,7 +129,7 @@ class Process:
             self.keys[number] = of, ordinal
         elif kind == "P":
             number, _, text = rest.partition("\t")
-            self.places[int(number)] = text
+            self.places[int(number)] = [place for place in text.split("\t") if place]
         elif kind in "DV":
             self.libraries.append((rest, kind == "V"))
         elif kind == "N":
@@ -123,9 +144,6 @@ class Process:
             self.runs[number] = count
         elif kind == "O":
             self.reentrant.add(int(rest))
-        elif kind == "S":
-            name, count = rest.split()
-            self.counts[name] = int(count)
         elif kind == "L":
             self.words = [word for word in rest.split("\t") if word]
         elif kind == "X":
@@ -188,7 +206,9 @@ class Names:
     def fitting(self, name):
         """The name as the format allows it, different from that of any other class. What stands before an `@` would be read as a type of
         locks, so one of a file or module is written as `%40`."""
-        name = "".join(letter if "!" <= letter <= "~" and letter not in ',"' else "_" for letter in name).replace("@", "%40")
+        if not FITTING.issuperset(name):
+            name = "".join(letter if letter in FITTING else "_" for letter in name)
+        name = name.replace("@", "%40")
         number, fitting = 1, cut(name)
         while fitting in self.taken:
             number += 1
@@ -236,11 +256,18 @@ class Trace(finishing.Trace):
 
     def take_part(self, part):
         start = len(self.by_lock) if self.segments else 1
+        left_out = part.process.left_out
         for code, place in part.records:
-            if not part.process.joins.is_left_out(code >> 3):
+            if code >> 3 in left_out:
+                continue
+            if code & 7 != RELEASE:
                 self.take_record(code, place)
-        for key, _, _ in list(reversed(self.held)) if part is not self.task else []:  # (as after an error in the recorder)
-            self.give_back(key)
+                continue
+            self.give_back(code >> 3)
+            if self.is_joined:
+                self.take_life()
+        for taken in list(reversed(self.held)) if part is not self.task else []:  # (as after an error in the recorder)
+            self.give_back(taken.key)
         self.segments.append((part, start, len(self.by_lock)))
 
     def take_life(self):
@@ -252,21 +279,24 @@ class Trace(finishing.Trace):
         self.take(LIFE, key[0].name, self.names.of_lock(key) if is_written else None, "w", [key[0].place])
 
     def take_record(self, code, place):
-        if code & 7 == RELEASE:
-            self.give_back(code >> 3)
-            self.take_life()
-            return
         if self.is_joined and len(self.held) == MOST_HELD:
             self.give_back(LIFE)
             self.beyond_held += 1
         process = self.task.process
-        key = process.key(code >> 3)
-        is_written = self.names.use(key[0])
-        self.lost += not is_written
-        places = [text for text in process.places.get(place, "").split("\t") if text]
-        lock = self.names.of_lock(key) if is_written else None
-        self.take(code >> 3, key[0].name, lock, WORDS[code & 7], places, WEAK.get(code & 7, ""))
-        self.ending.update([len(self.by_lock) - 1] if code & 7 in WEAK else [])
+        taken = process.taken.get(code)
+        if taken is None:
+            taken = process.taken[code] = self.taken_by(code)
+        self.take_known(taken, process.places.get(place, ()))
+        if taken.lock is None:
+            self.lost += 1
+        if taken.weak:
+            self.ending.add(len(self.by_lock) - 1)
+
+    def taken_by(self, code):
+        """What an acquisition takes."""
+        key = self.task.process.key(code >> 3)
+        lock = self.names.of_lock(key) if self.names.use(key[0]) else None
+        return finishing.Taken(code >> 3, key[0].name, lock, WORDS[code & 7], WEAK.get(code & 7, ""))
 
 
 def is_of_process(name):
@@ -297,7 +327,7 @@ def read_all(raw):
 def note_end(tally, trace, name):
     """Who waits for a lock at the end, and who ended with one."""
     task = trace.task
-    tally.note_end(name, [of for key, of, _ in trace.held if key != LIFE], task.process.joins.is_waiting(task), task.has_ended)
+    tally.note_end(name, [taken.of for taken in trace.held if taken.key != LIFE], task.process.joins.is_waiting(task), task.has_ended)
     for codes in [codes for part in trace.parts for codes in part.broken_off]:
         names = [task.process.key(code >> 3)[0].name for code in codes]
         tally.note("waiting", "%s waited for %s, holding %s, until that was interrupted" % (name, names[-1], ", ".join(names[:-1])))

@@ -70,9 +70,9 @@ class Lines:
 
     def add_releases(self, trace):
         """What is held at a trace's end is given back."""
-        for _, _, lock in reversed(trace.held if trace is not None else []):
-            if lock is not None:
-                self.add_line("rel,%s,0" % lock)
+        for taken in reversed(trace.held if trace is not None else []):
+            if taken.lock is not None:
+                self.add_line(taken.end_of_lock)
 
 
 def as_readers(line, reentrant):
