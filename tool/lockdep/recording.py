@@ -198,6 +198,12 @@ def summary_quietly(home: str, path: str) -> Ended:
     return quietly(home, path, lambda: summary_again(home, path, accepted_by_run()))
 
 
+def own_summary_quietly(home: str, path: str) -> Ended:
+    """What was recorded and what was left out, in the words of a recorder that makes its traces itself."""
+    from .seen import say_what_was_seen_of_own
+    return quietly(home, path, lambda: say_what_was_seen_of_own(path, summary_of(home, path)))
+
+
 def quietly(home: str, path: str, doing: Callable[[], int]) -> Ended:
     """Does something to a recording, and keeps what it says."""
     from . import saying, summary
@@ -262,10 +268,16 @@ def become_script(home: str, folder: Folder) -> None:
 
 def summary_again(home: str, path: str, accepted: list[str]) -> int:
     """Says again what was recorded. What is accepted as left out doesn't count."""
-    from . import summary
     from .seen import status_of_summary
-    folder = Folder(checked(path))
-    found = summary.read(folder.path, home)
+    path = checked(path)
+    return status_of_summary(path, summary_of(home, path), accepted)
+
+
+def summary_of(home: str, path: str) -> Summary:
+    """The summary of a recording whose traces were made."""
+    from . import summary
+    found = summary.read(path, home)
     if found is None:
-        raise Refusal(folder.unmade() if folder.mark() else "%s has no recording" % folder.path)
-    return status_of_summary(folder.path, found, accepted)
+        folder = Folder(path)
+        raise Refusal(folder.unmade() if folder.mark() else "%s has no recording" % path)
+    return found

@@ -158,7 +158,7 @@ def command_end(status):
 
 
 def record(folder, command, environment, then, is_chosen):
-    """Records a command in an environment. Returns its status, or becomes what runs after it."""
+    """Records a command in an environment. Ends with its status, or becomes what runs after it."""
     folder.begin(is_chosen)
     environment = folder.watched(command, environment, is_chosen)
     block_signals()
@@ -177,7 +177,7 @@ def record(folder, command, environment, then, is_chosen):
         signal.pthread_sigmask(signal.SIG_SETMASK, mask)
         os.execv(then, [then, "--end", folder.path, str(status)])
     seen = folder.say_what_was_seen()
-    return status or (2 if seen == 2 or folder.has_unreached() else 0)
+    os._exit(status or (2 if seen == 2 or folder.has_unreached() else 0))  # (what Python does at its end takes longer than most of this)
 
 
 def finish_again(folder):

@@ -97,6 +97,5 @@ class Folder(driver.Folder):
 
     def say_what_was_seen(self):
         """Prints what was recorded and what was left out. Returns 0, 1 if something was left out, and 2 if no lock was seen."""
-        from lockdep import seen
-        found = self.summary()
-        return seen.say_what_was_seen(self.path, found, is_all_own=True) or (seen.LEFT_OUT if found.left_out() else seen.ALL)
+        from lockdep.seen import say_what_was_seen_of_own
+        return say_what_was_seen_of_own(self.path, self.summary())
