@@ -619,14 +619,14 @@ class Finder:
 
 # ---- The beginning.
 
-def replace_everywhere(old, new):
-    """Modules that were loaded before have the real functions under names of their own."""
+def replace_everywhere(replaced):
+    """Modules that were loaded before have the real functions under names of their own. What takes their place comes with their numbers."""
     for name, module in list(sys.modules.items()):
         if name in ("threading", "_thread", __name__, recording.__name__) or module is _bootstrap:
             continue
         for own, value in list(vars(module).items()):
-            if value is old:
-                setattr(module, own, new)
+            if id(value) in replaced:
+                setattr(module, own, replaced[id(value)])
 
 
 def replace_locks():
@@ -634,8 +634,7 @@ def replace_locks():
     real_lock = threading.Lock
     threading.Lock = _thread.allocate_lock = _thread.allocate = _thread.LockType = lock
     threading._CRLock = _thread.RLock = RLock  # (`threading.RLock` itself stays, and makes what it finds there)
-    for old, new in ((real_lock, lock), (allocate, lock), (RealLock, lock), (RealRLock, RLock)):
-        replace_everywhere(old, new)
+    replace_everywhere({id(real_lock): lock, id(allocate): lock, id(RealLock): lock, id(RealRLock): RLock})
     replace_python_rlocks()
     replace_semaphores()
 
