@@ -87,9 +87,14 @@ def wait_without_end(record, acquire, release):
     return keep(record, WRITE, release)
 
 
+def is_code(code, other):
+    """Whether two codes are the same, perhaps in two copies of a module. (To compare a code with itself takes longer than to make a lock.)"""
+    return code is other or code == other
+
+
 def maker(frame):
     """The frame that a lock is made in: not that of `threading.RLock`, which only passes on what it is asked for."""
-    return frame.f_back if frame is not None and frame.f_code == of_rlock else frame
+    return frame.f_back if frame is not None and is_code(frame.f_code, of_rlock) else frame
 
 
 def reentrant_at(frame):
@@ -103,7 +108,8 @@ def is_own_use(frame):
     """Whether a lock is made here for `threading` itself, of which a program may load another copy, or for the import system."""
     if frame is None:
         return False
-    return frame.f_globals is of_imports or (frame.f_code.co_filename == of_condition.co_filename and frame.f_code != of_condition)
+    code = frame.f_code
+    return frame.f_globals is of_imports or (code.co_filename == of_condition.co_filename and not is_code(code, of_condition))
 
 
 class Replaced:
