@@ -5,7 +5,6 @@ leaves in the background, and becomes this driver again at the end. So it is one
 from __future__ import annotations
 
 import os
-import sys
 
 from .building import is_preloadable, recorder_folder
 from .folder import STAGE, Folder, checked, remove_tree
@@ -261,9 +260,9 @@ NOTHING_TO_MAKE = "%s has no recording whose traces can be made"
 
 def become_script(home: str, folder: Folder) -> None:
     """Becomes what makes the traces, if they are those of a recorder that does all by itself."""
-    script = RECORDERS[folder.mark() or ""].script if folder.mark() in RECORDERS else None
-    if script:
-        become([sys.executable, "-S", os.path.join(home, "recorders", script), "--finish", folder.path], os.environ)
+    recorder = RECORDERS.get(folder.mark() or "")
+    if recorder and recorder.script:
+        become(recorder.starting(home) + ["--finish", folder.path], os.environ)
 
 
 def summary_again(home: str, path: str, accepted: list[str]) -> int:

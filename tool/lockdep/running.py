@@ -3,7 +3,6 @@ LOCKDEP_RUN_* what was asked for."""
 from __future__ import annotations
 
 import os
-import sys
 
 from . import recorders, recording
 from .building import agent_of_java
@@ -39,9 +38,7 @@ def run(home: str, line: Words) -> int:
     if recorder.script:
         words = "--either" if line.has("--recorder") else "--command"
         recording.pass_on_signals(recorder, line.last("--signals"))
-        # (without what the module `site` loads, which takes longer than all else up to the command)
-        script = [sys.executable, "-S", os.path.join(home, "recorders", recorder.script)]
-        become(script + ["-o", folder, "--then", then, words] + line.rest, os.environ)
+        become(recorder.starting(home) + ["-o", folder, "--then", then, words] + line.rest, os.environ)
     look_at_recorder(home)
     recording.begin(home, recording.Wishes(folder, recorder, line.has("--recorder"), line.last("--frames"),
                                             signals=line.last("--signals")), line.rest, then)
