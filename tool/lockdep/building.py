@@ -1,4 +1,4 @@
-"""Where the recorder of pthreads is: built beside its sources, or in the user's cache."""
+"""Where the recorders of pthreads and of Java are: built beside their sources, or in the user's cache."""
 from __future__ import annotations
 
 import os
@@ -44,6 +44,27 @@ def is_current(recorder: str, out: str) -> bool:
     except OSError:
         return False
     return is_newer and not (os.path.exists(os.path.join(out, WITHOUT_LIBDW)) and any(map(os.path.exists, LIBDW)))
+
+
+def agent_of_java(home: str) -> str:
+    """The path of the recorder of Java, which is built if it is missing or older than its sources; empty if it can't be built. (To find that it is
+    there takes the script `build` longer.)"""
+    recorder = os.path.join(os.path.realpath(home), "recorders", "java")
+    agent = os.path.join(recorder, "out", "lockdep-agent.jar")
+    if "=" not in agent and is_newest(agent, [os.path.join(recorder, name) for name in ("build", "agent")]):
+        return agent
+    status, output = output_of([os.path.join(recorder, "build"), "--print"])
+    return "" if status else os.fsdecode(output).rstrip("\n")
+
+
+def is_newest(built: str, sources: list[str]) -> bool:
+    """Whether something is there and no file of its sources is newer."""
+    try:
+        when = changed(built)
+        files = sources + [os.path.join(folder, name) for source in sources for folder, _, names in os.walk(source) for name in names]
+        return all(changed(file) <= when for file in files if os.path.isfile(file))
+    except OSError:
+        return False
 
 
 def changed(path: str) -> int:

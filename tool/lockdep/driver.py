@@ -3,7 +3,6 @@ from __future__ import annotations
 
 import os
 import resource
-import sys
 
 from .options import COMMANDS, Help, Words, parse
 from .processes import IGNORED_HERE, become, signal
@@ -130,9 +129,8 @@ def start_record(home: str, line: Words) -> int:
     from .recorders import RECORDERS
     recorder, folder = RECORDERS[line.last("--recorder", "pthread")], line.last("-o", "traces")
     if recorder.script:
-        script = os.path.join(home, "recorders", recorder.script)
         recording.pass_on_signals(recorder, line.last("--signals"))
-        become([sys.executable, "-I", "-S", script, "-o", recording.checked(folder), "--either"] + line.rest, os.environ)
+        become(recorder.starting(home) + ["-o", recording.checked(folder), "--either"] + line.rest, os.environ)
     wishes = recording.Wishes(folder, recorder, line.has("--recorder"), line.last("--frames"), "1" if line.has("--version-1") else "2",
                               not line.has("--no-wait"), line.last("--signals"))
     recording.begin(home, wishes, line.rest, os.path.join(home, "recorders", "pthread", "record"))

@@ -10,18 +10,16 @@ import errno
 import os
 import shutil
 import signal
-import sys
 
 from . import checker
 from .asking import text_in, traces_in
 from .checker import HOME
 from .files import complain
 from .report import NOT_JUDGED, Recording, Report, Wishes, report, say
-from .recording import end_quietly, summary_quietly
+from .recording import end_quietly, own_summary_quietly, summary_quietly
 from .room import Room, RoomMissing
 from .words import Refusal, bytes_of, text_of
 
-PYTHON_RECORDER = os.path.join(HOME, "recorders", "python", "lockdep_record")
 STAGE = "/.lockdep-recorder/record"  # where tool/run made a copy of the script just for one recording
 NEEDED = 65536  # bytes that have to be writable
 UNJUDGED = "this run isn't judged"
@@ -107,12 +105,11 @@ class Ending:
 
     def look_at_traces(self) -> None:
         """Says what a recorder that makes its traces itself recorded, and ends if nothing of the program is in them."""
-        import subprocess
-        done = subprocess.run([sys.executable, PYTHON_RECORDER, "--summary", self.folder], stdin=subprocess.DEVNULL, stderr=subprocess.PIPE)
-        self.messages = text_of(done.stderr).split("\n")[:-1]
+        done = own_summary_quietly(HOME, self.folder)
+        self.messages = done.messages
         # (of what the standard library does with its own locks, findings are shown)
         of_library = any(line.startswith("library-only ") for line in text_in(os.path.join(self.folder, "SUMMARY")).split("\n"))
-        if done.returncode > 1 and not of_library:
+        if done.status > 1 and not of_library:
             raise self.give_up(UNJUDGED)
 
     def recording(self) -> Recording:

@@ -211,7 +211,7 @@ class Thread(LoggedThread):
         return self.has_joined and not self.has_taken
 
     def held_classes(self) -> list[str]:
-        return [of for key, of, _ in self.held if key != LIFE]
+        return [taken.of for taken in self.held if taken.key != LIFE]
 
 
 def finish(path: str, raw: str) -> Summary:

@@ -7,6 +7,10 @@ from .folder import OBJECTS, TASKS, WEAK
 from .losses import words_of
 from .summary import Count, put
 
+TYPE_CHECKING = False  # for a tool that checks types, it is true
+if TYPE_CHECKING:
+    from typing import Sequence
+
 HEADER = "lockdep,2"
 MOST_KEYS = 8192  # names that traces may have together
 MOST_LOCKS = MOST_KEYS // 2  # of these, how many single locks have a name of their own
@@ -72,55 +76,82 @@ class LockNames:
         return name
 
 
+class Taken:
+    """A lock as a trace takes it: its key, its class, and its name, or none if it isn't written; how it is taken weakly, if it is; and the lines that take it
+    and give it back, by classes and by single locks. A trace repeats itself, so each is made once."""
+    __slots__ = ("key", "of", "lock", "weak", "line", "line_of_lock", "end", "end_of_lock")
+
+    def __init__(self, key: object, of: str, lock: str | None, mode: str, weak: str) -> None:
+        self.key, self.of, self.lock, self.weak = key, of, lock, weak
+        self.line, self.line_of_lock = "acq,%s,0,%s" % (of, mode), "acq,%s,0,%s" % (lock, mode)
+        self.end, self.end_of_lock = "rel,%s,0" % of, "rel,%s,0" % lock
+
+
 class Trace:
     """The texts of a task's trace: by classes, by single locks, and the places of its records."""
 
     def __init__(self) -> None:
         self.by_class, self.by_lock, self.places = [HEADER], [HEADER], []
         self.weak: list[str] = []  # of acquisitions that are weak: the number of the record, and in which way
-        self.held: list[tuple[object, str, str | None]] = []
-        self.texts: dict[str, str] = {}  # of lines: each is kept once, since a trace repeats itself
-
-    def add(self, line: str, line_of_lock: str) -> None:
-        self.by_class.append(self.texts.setdefault(line, line))
-        self.by_lock.append(self.texts.setdefault(line_of_lock, line_of_lock))
+        self.held: list[Taken] = []
+        self.known: dict[tuple[object, str, str | None, str, str], Taken] = {}
 
     def take(self, key: object, of: str, lock: str | None, mode: str, places: list[str], weak: str = "") -> None:
         """A lock is taken: its key, its class, and its name, or none if it isn't written. How it is taken weakly matters if something is held."""
-        self.held.append((key, of, lock))
-        if lock is not None:
-            self.add("acq,%s,0,%s" % (of, mode), "acq,%s,0,%s" % (lock, mode))
-            self.places += ["%d %s" % (len(self.by_class), place) for place in places]
-            self.weak += ["%d %s" % (len(self.by_class), weak)] if weak and len(self.held) > 1 else []
+        words = key, of, lock, mode, weak
+        taken = self.known.get(words)
+        if taken is None:
+            taken = self.known[words] = Taken(*words)
+        self.take_known(taken, places)
+
+    def take_known(self, taken: Taken, places: Sequence[str]) -> None:
+        self.held.append(taken)
+        if taken.lock is None:
+            return
+        self.by_class.append(taken.line)
+        self.by_lock.append(taken.line_of_lock)
+        number = len(self.by_class)
+        for place in places:
+            self.places.append(f"{number} {place}")
+        if taken.weak and len(self.held) > 1:
+            self.weak.append("%d %s" % (number, taken.weak))
 
     def give_back(self, key: object) -> None:
         """The newest lock of this key is given back, if there is one."""
-        for at in range(len(self.held) - 1, -1, -1):
-            if self.held[at][0] == key:
-                _, of, lock = self.held.pop(at)
-                if lock is not None:
-                    self.add("rel,%s,0" % of, "rel,%s,0" % lock)
-                return
+        held = self.held
+        at = len(held) - 1
+        while at >= 0 and held[at].key != key:
+            at -= 1
+        if at >= 0:
+            taken = held.pop(at)
+            if taken.lock is not None:
+                self.by_class.append(taken.end)
+                self.by_lock.append(taken.end_of_lock)
 
     def held_classes(self) -> list[str]:
-        return [of for _, of, _ in self.held]
+        return [taken.of for taken in self.held]
 
     def events(self) -> int:
         return len(self.by_class) - 1
 
     def write(self, folder: str, name: str) -> None:
+        places = text_of(self.places)
         for place, lines in (("", self.by_class), (OBJECTS, self.by_lock)):
             path = os.path.join(folder, place, name + ".csv")
-            write_lines(path, lines)
-            write_lines(path + ".places", self.places)
+            put(path, text_of(lines))
+            put(path + ".places", places)
 
 
 def trace_name(number: int) -> str:
     return "task-%04d" % number
 
 
+def text_of(lines: list[str]) -> str:
+    return "\n".join(lines) + "\n" if lines else ""
+
+
 def write_lines(path: str, lines: list[str]) -> None:
-    put(path, "".join(line + "\n" for line in lines))
+    put(path, text_of(lines))
 
 
 def write_classes(folder: str, classes: list[tuple[str, str, str]]) -> None:

@@ -20,6 +20,8 @@ NUMBERS = "threads"  # in it: of each trace of the recording a number of its thr
 FIRST_LINE = "a recording by lockdep made these:"
 LOCK = 9  # the open file whose lock says that a recording is under way; `run` closes it in the command
 PAGE = "report.html"  # isn't written by what records, which leaves another's alone
+INSIDE = "libraries"  # in the recording of a Python or Java program: a folder with a recording of its own, of C libraries
+STAGE = ".lockdep-recorder"  # links to the recorder, if LD_PRELOAD can't name where it is
 PROVOKED, OF_PROVOKE = "provoked.json", "provoke"  # what `lockdep provoke` made happen, and the folder with what its runs left
 MADE = ("classes", "SUMMARY", "summary.json", PAGE, "raw.tar.gz", "objects", "classes.places", "breaches", "breaches.places", PROVOKED, OF_PROVOKE,
         TASKS, LIVES, WEAK, SIGNALS)

@@ -3,23 +3,21 @@
 from __future__ import annotations
 
 import os
-import re
 
 from . import losses
 from .building import is_preloadable, recorder_folder
 from .finishing import MOST_KEYS, MOST_TRACES, trace_name
-from .folder import LIVES, OBJECTS, TASKS, WEAK, Folder, remove_tree
+from .folder import INSIDE, LIVES, OBJECTS, STAGE, TASKS, WEAK, Folder, remove_tree
 from .processes import find_command, output_of, run
-from .recording import STAGE, is_of_musl, with_asan_after
+from .recording import is_of_musl, with_asan_after
 from .programs import Files
 from .saying import Refusal
 from .summary import Count, File, Summary, put, read
 
 VARIABLE = "LOCKDEP_LIBRARIES"  # names the folder that the preloaded recorder writes to
-INSIDE = "libraries"  # in the recording: a folder with a recording of its own
 OF_PROCESSES = (".arena", ".refused")  # end the names of files in it
 RIGHTS = 0o1777  # a program may give up its rights before it loads a library
-TASK = re.compile(r"\btask-([0-9]{4,})\b")
+TASK = r"\btask-([0-9]{4,})\b"
 BESIDE = (TASKS, LIVES, WEAK, "breaches")  # files whose lines name traces
 OF_THREADS = "library-threads"
 OTHER_LOCKS = ("openmp", "go", "python-lock")  # kinds of locks of libraries that aren't recorded
@@ -123,7 +121,8 @@ def make(home: str, made: str) -> bool:
 
 
 def traces_in(folder: str) -> list[str]:
-    return sorted(name for name in names_in(folder) if TASK.match(name) and name.endswith(".csv"))
+    import re
+    return sorted(name for name in names_in(folder) if re.match(TASK, name) and name.endswith(".csv"))
 
 
 def have_room(path: str, made: str) -> bool:
@@ -184,13 +183,15 @@ def renamed(line: str, names: dict[str, str]) -> str:
 
 def renumbered(text: str, first: int) -> str:
     """A text in which traces have the numbers that follow those of the program's own."""
-    return TASK.sub(lambda match: trace_name(int(match.group(1)) + first), text)
+    import re
+    return re.sub(TASK, lambda match: trace_name(int(match.group(1)) + first), text)
 
 
 def move(path: str, made: str, first: int) -> None:
+    import re
     for place in ("", OBJECTS):
         for name in names_in(os.path.join(made, place)):
-            if TASK.match(name):
+            if re.match(TASK, name):
                 os.rename(os.path.join(made, place, name), os.path.join(path, place, renumbered(name, first)))
     for name in (name for name in BESIDE if os.path.isfile(os.path.join(made, name))):
         own = lines_of(os.path.join(path, name)) if os.path.isfile(os.path.join(path, name)) else []

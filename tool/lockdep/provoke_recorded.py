@@ -3,7 +3,6 @@ from __future__ import annotations
 
 import os
 import signal
-import sys
 import time
 
 from .folder import checked
@@ -41,7 +40,7 @@ def recording_words(home: str, folder: str, recorder: Recorder, line: Words) -> 
     """What records the command."""
     is_named, recorders = line.has("--recorder"), os.path.join(home, "recorders")
     if recorder.script:
-        return [sys.executable, os.path.join(recorders, recorder.script), "-o", checked(folder), "--either" if is_named else "--command", *line.rest]
+        return [*recorder.starting(home), "-o", checked(folder), "--either" if is_named else "--command", *line.rest]
     return [os.path.join(recorders, "pthread", "record"), *(["--recorder", recorder.name] if is_named else []), "-o", folder, "--", *line.rest]
 
 

@@ -40,6 +40,10 @@ class Recorder:
         """What the command needs to be recorded."""
         return {"PRELOAD": preload, "LOCKDEP_RECORD": raw}
 
+    def starting(self, home: str) -> list[str]:
+        """The words that start its script, without anything of the user's. (What `site` loads takes longer than all else up to the command.)"""
+        return [sys.executable, "-I", "-S", os.path.join(home, "recorders", self.script or "")]
+
     def building(self, home: str, program: str, words: list[str]) -> dict[str, str]:
         """What a command that builds programs needs besides, so that these are recorded."""
         return {}
@@ -62,7 +66,7 @@ class Recorder:
 
 
 class Python(Recorder):
-    name, language, script, holder = "python", "Python", "python/lockdep_record", "python"
+    name, language, script, holder = "python", "Python", "python/lockdep_record/__main__.py", "python"
     sees, when = "for the locks of threading and asyncio", "the command is python3 or a script that names it"
 
     def recognises(self, command: str) -> bool:

@@ -5,10 +5,9 @@ leaves in the background, and becomes this driver again at the end. So it is one
 from __future__ import annotations
 
 import os
-import sys
 
 from .building import is_preloadable, recorder_folder
-from .folder import Folder, checked, remove_tree
+from .folder import STAGE, Folder, checked, remove_tree
 from .processes import become, find_command
 from .recorders import RECORDERS, Recorder
 from .saying import RUN, Refusal, say_refusal, typed, write_error
@@ -23,7 +22,6 @@ ALL = "all"
 OF_SIGNALS, SIGNALS = "LOCKDEP_SIGNALS", ("off", "locks", ALL)  # what is recorded of signal handlers: `locks`, if it isn't set
 MUSL = b"/ld-musl"  # in the head of a program whose loader would end it because of what is preloaded
 HEAD = 4096
-STAGE = ".lockdep-recorder"  # links to the recorder, if LD_PRELOAD can't name where it is
 ASAN = "verify_asan_link_order"  # without it, a program with gcc's address sanitizer doesn't start after another library
 
 
@@ -199,6 +197,12 @@ def summary_quietly(home: str, path: str) -> Ended:
     return quietly(home, path, lambda: summary_again(home, path, accepted_by_run()))
 
 
+def own_summary_quietly(home: str, path: str) -> Ended:
+    """What was recorded and what was left out, in the words of a recorder that makes its traces itself."""
+    from .seen import say_what_was_seen_of_own
+    return quietly(home, path, lambda: say_what_was_seen_of_own(path, summary_of(home, path)))
+
+
 def quietly(home: str, path: str, doing: Callable[[], int]) -> Ended:
     """Does something to a recording, and keeps what it says."""
     from . import saying, summary
@@ -256,17 +260,23 @@ NOTHING_TO_MAKE = "%s has no recording whose traces can be made"
 
 def become_script(home: str, folder: Folder) -> None:
     """Becomes what makes the traces, if they are those of a recorder that does all by itself."""
-    script = RECORDERS[folder.mark() or ""].script if folder.mark() in RECORDERS else None
-    if script:
-        become([sys.executable, os.path.join(home, "recorders", script), "--finish", folder.path], os.environ)
+    recorder = RECORDERS.get(folder.mark() or "")
+    if recorder and recorder.script:
+        become(recorder.starting(home) + ["--finish", folder.path], os.environ)
 
 
 def summary_again(home: str, path: str, accepted: list[str]) -> int:
     """Says again what was recorded. What is accepted as left out doesn't count."""
-    from . import summary
     from .seen import status_of_summary
-    folder = Folder(checked(path))
-    found = summary.read(folder.path, home)
+    path = checked(path)
+    return status_of_summary(path, summary_of(home, path), accepted)
+
+
+def summary_of(home: str, path: str) -> Summary:
+    """The summary of a recording whose traces were made."""
+    from . import summary
+    found = summary.read(path, home)
     if found is None:
-        raise Refusal(folder.unmade() if folder.mark() else "%s has no recording" % folder.path)
-    return status_of_summary(folder.path, found, accepted)
+        folder = Folder(path)
+        raise Refusal(folder.unmade() if folder.mark() else "%s has no recording" % path)
+    return found

@@ -3,11 +3,11 @@ LOCKDEP_RUN_* what was asked for."""
 from __future__ import annotations
 
 import os
-import sys
 
 from . import recorders, recording
+from .building import agent_of_java
 from .options import Words
-from .processes import become, output_of, run as run_program
+from .processes import become, output_of
 from .recorders import RECORDERS, Recorder
 from .saying import Refusal
 
@@ -31,14 +31,14 @@ def run(home: str, line: Words) -> int:
     look_at_name(folder)
     look_at_files(line, folder)
     environment = wishes(home, line, recorder)
-    if recorder.name == "java" and run_program([os.path.join(home, "recorders", "java", "build")]) != 0:
+    if recorder.name == "java" and not agent_of_java(home):
         return NOT_BUILT
     os.environ.update(environment)
     then = os.path.join(home, "tool", "recording", "record")
     if recorder.script:
         words = "--either" if line.has("--recorder") else "--command"
         recording.pass_on_signals(recorder, line.last("--signals"))
-        become([sys.executable, os.path.join(home, "recorders", recorder.script), "-o", folder, "--then", then, words] + line.rest, os.environ)
+        become(recorder.starting(home) + ["-o", folder, "--then", then, words] + line.rest, os.environ)
     look_at_recorder(home)
     recording.begin(home, recording.Wishes(folder, recorder, line.has("--recorder"), line.last("--frames"),
                                             signals=line.last("--signals")), line.rest, then)

@@ -56,6 +56,11 @@ def say_what_was_seen(folder: str, summary: Summary, ended: int | None = None, i
     return ALL
 
 
+def say_what_was_seen_of_own(folder: str, summary: Summary) -> int:
+    """The same of a recorder that sees only the program's own locks. The result is LEFT_OUT if something was left out."""
+    return say_what_was_seen(folder, summary, is_all_own=True) or (LEFT_OUT if summary.left_out() else ALL)
+
+
 def status_of_summary(folder: str, summary: Summary, accepted: list[str]) -> int:
     """Says it all again. The status is also about what was left out, unless its code is accepted."""
     seen = say_what_was_seen(folder, summary, accepted=accepted)

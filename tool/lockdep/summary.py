@@ -216,5 +216,11 @@ def write(folder: str, summary: Summary, recorder: str) -> None:
 
 
 def put(path: str, text: str) -> None:
-    with open(path, "w", encoding="utf-8", errors="surrogateescape") as file:
-        file.write(text)
+    """Writes a file. (`open` has more to find out about a file than it takes to write a short one, and a recording has many of these.)"""
+    raw = text.encode("utf-8", "surrogateescape")
+    file = os.open(path, os.O_WRONLY | os.O_CREAT | os.O_TRUNC | os.O_CLOEXEC, 0o666)
+    try:
+        while raw:
+            raw = raw[os.write(file, raw):]
+    finally:
+        os.close(file)

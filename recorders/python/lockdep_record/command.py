@@ -1,6 +1,6 @@
 """What the recorders whose traces are made here have in common: their command line, and the recorded command."""
+import _signal as signal  # what `signal` puts around it takes longer to import than all of this
 import os
-import signal
 import sys
 from time import monotonic, sleep
 
@@ -152,12 +152,13 @@ def command_end(status):
     """How the command ended, unless well."""
     if not status:
         return ""
-    name = signal.Signals(status - 128).name if status - 128 in signal.valid_signals() else None
+    from signal import Signals
+    name = Signals(status - 128).name if status - 128 in signal.valid_signals() else None
     return " (the command ended with status %d%s)" % (status, ", as by " + name if name else "")
 
 
 def record(folder, command, environment, then, is_chosen):
-    """Records a command in an environment. Returns its status, or becomes what runs after it."""
+    """Records a command in an environment. Ends with its status, or becomes what runs after it."""
     folder.begin(is_chosen)
     environment = folder.watched(command, environment, is_chosen)
     block_signals()
@@ -176,7 +177,7 @@ def record(folder, command, environment, then, is_chosen):
         signal.pthread_sigmask(signal.SIG_SETMASK, mask)
         os.execv(then, [then, "--end", folder.path, str(status)])
     seen = folder.say_what_was_seen()
-    return status or (2 if seen == 2 or folder.has_unreached() else 0)
+    os._exit(status or (2 if seen == 2 or folder.has_unreached() else 0))  # (what Python does at its end takes longer than most of this)
 
 
 def finish_again(folder):

@@ -1,24 +1,23 @@
 """Makes traces from what the processes of a recording wrote (`recording` describes the format of their files)."""
 import os
-import re
 from binascii import crc32
 
-from . import sets, starts
-from .folder import HOME, finishing, joins as joining, losses
+from . import sets
+from .folder import driver, finishing, joins as joining, losses
 from .folder import summary as summaries
 
 MOST_ALIKE = 2
 RELEASE = 2
+RECORDS = frozenset("AR")  # begin lines with an acquisition or a release
 WORDS = ("w", "tw", None, "r", "tr", "r", "w", "w")  # of the modes; None is a release
 TIMED = (5, 6)  # modes of waits that give up at a time
 WEAK = {**dict.fromkeys(TIMED, "timed"), 7: "ended-thread"}  # what `weak` says of modes; the last is of a thread that had ended when it was joined
-FILE = re.compile(r"[0-9]+-[0-9]+")  # the name of a process's file
+FITTING = frozenset(map(chr, range(ord("!"), ord("~") + 1))) - frozenset(',"')  # letters that a class's name may have
 MOST_HELD = 48  # locks that a trace has at a time
 LIFE = "life"  # the key of a thread in its own trace
 LIBRARY = "library"  # the kind of a class that the standard library makes for itself
 KEPT_KINDS = ("any object of", "the class object of", joining.STARTED)  # kinds of classes; all others are made somewhere
 
-LONGEST_COMMAND = 160
 
 class Task:
     """The records of a task, each a code and a place."""
@@ -70,21 +69,38 @@ class Process:
         self.classes, self.keys, self.places, self.tasks, self.counts = {}, {}, {}, {}, {}
         self.words, self.starts, self.joins, self.libraries = None, [], None, []
         self.sources, self.runs, self.reentrant, self.lines = {}, {}, set(), 0
+        self.left_out, self.taken = set(), {}  # the threads that aren't written, by their keys; and what traces take, by the codes of records
         self.is_inner = False  # an interpreter beside the main one of a process, which is counted
 
     def read(self, path):
         if os.path.exists(path + ".lost") or not os.path.getsize(path):
             self.counts["unwritten"] = 1
         with open(path, encoding="utf-8", errors="replace") as file:
-            for line in file:
-                if line.endswith("\n"):
-                    try:
-                        self.take(line[:-1])
-                    except (ValueError, IndexError, KeyError):
-                        self.counts["unwritten"] = 1
+            self.take_all(file.read().split("\n")[:-1])  # (a last line without an end was cut off)
         threads = {key for key, (made, _) in self.keys.items() if made in self.classes and self.classes[made].kind == joining.STARTED}
         self.joins = joining.Joins(threads, self.tasks.values())
+        self.left_out = {key for key in threads if not self.joins.is_kept(key)}
         self.join_parts()
+
+    def take_all(self, lines):
+        """Takes the lines of the file. Most are records, and what one says was mostly said by another before, so it is known by its text."""
+        tasks, records = {}, {}
+        for self.lines, line in enumerate(lines, 1):
+            try:
+                if line[:1] not in RECORDS:
+                    self.take(line)
+                    continue
+                _, number, text = line.split(" ", 2)
+                task, record = tasks.get(number), records.get(text)
+                if task is None or record is None:
+                    self.take(line)
+                    task = tasks[number] = self.tasks[int(number)]
+                    records[text] = task.records[-1]
+                    continue
+                task.records.append(record)
+                task.last = self.lines
+            except (ValueError, IndexError, KeyError):
+                self.counts["unwritten"] = 1
 
     def join_parts(self):
         """Puts the traces of a task together. The main thread's are all those of tasks that handlers may come in at."""
@@ -98,9 +114,11 @@ class Process:
         return self.sources[number].key if number in self.sources else None
 
     def take(self, line):
-        self.lines += 1
         kind, _, rest = line.partition(" ")
-        if kind == "process":
+        if kind == "S":
+            name, count = rest.split()
+            self.counts[name] = int(count)
+        elif kind == "process":
             words = rest.split()
             self.pid, self.began, self.is_inner = int(words[0]), int(words[1]), words[2:] == ["inner"]
         elif kind == "C":
@@ -111,7 +129,7 @@ class Process:
             self.keys[number] = of, ordinal
         elif kind == "P":
             number, _, text = rest.partition("\t")
-            self.places[int(number)] = text
+            self.places[int(number)] = [place for place in text.split("\t") if place]
         elif kind in "DV":
             self.libraries.append((rest, kind == "V"))
         elif kind == "N":
@@ -126,27 +144,12 @@ class Process:
             self.runs[number] = count
         elif kind == "O":
             self.reentrant.add(int(rest))
-        elif kind == "S":
-            name, count = rest.split()
-            self.counts[name] = int(count)
         elif kind == "L":
             self.words = [word for word in rest.split("\t") if word]
         elif kind == "X":
-            self.add_start(Start(*rest.split(" ", 3)))
+            self.starts.append(rest)
         else:
             self.take_record(kind, list(map(int, rest.split())))
-
-    def add_start(self, start):
-        """A program that the process started. What a Java program starts is only named in its file, unless it is Java and recorded too."""
-        if start.kind != STARTED:
-            self.starts.append(start)
-            return
-        for line in starts.from_java([start.path] + start.words):
-            found = Start(*line.rstrip("\n")[2:].split(" ", 3))
-            if found.kind == starts.PYTHON:
-                found.kind, found.reason = OTHER_PYTHON, "python"
-            if found.kind != starts.JAVA or start.reason != "recorded":
-                self.starts.append(found)
 
     def task(self, number):
         if number not in self.tasks:
@@ -180,53 +183,6 @@ class Process:
         return self.classes.get(of) or self.names.class_of("unknown", "?:0 ?", ""), ordinal, self.number
 
 
-class Start:
-    """A program that a recorded process started."""
-
-    def __init__(self, kind, is_exact, reason, rest):
-        self.kind, self.reason = kind, reason
-        self.path, *words = rest.split("\t")
-        self.words = [word for word in words if word] if is_exact == "1" else []
-
-    def is_of(self, words):
-        """Whether a process that these words started may be this one. A script's interpreter comes before the words of its start."""
-        return not self.words or words[-len(self.words):] == self.words
-
-    def text(self):
-        name = " ".join([self.path] + self.words)
-        return name if len(name) <= LONGEST_COMMAND else name[:LONGEST_COMMAND - 3] + "..."
-
-
-# The kinds of starts of a Java program's: one whose program isn't looked at yet, and one of a Python.
-STARTED, OTHER_PYTHON = "started", "other-python"
-OTHERS = (OTHER_PYTHON,) + starts.OTHERS
-
-
-def unreached(processes):
-    """The starts of Pythons that weren't recorded: those that none of the processes is. What is known best comes first."""
-    left = [process.words for process in processes if process.words is not None]
-    pythons = [start for process in processes for start in process.starts if start.kind == starts.PYTHON]
-    found = []
-    for start in sorted(pythons, key=lambda start: -len(start.words)):
-        own = next((words for words in left if start.is_of(words)), None) if start.reason == "-" else None
-        if own is None:
-            found.append(start)
-        else:
-            left.remove(own)
-    return found
-
-
-def count_of(code, of, is_counted=True, reasons=losses.REASONS_OF_STARTS):
-    """Starts as a count of SUMMARY, with how often there was each. They are named even if they don't count as left out."""
-    times = {}
-    for start in of:
-        line = start.text(), reasons.get(start.reason)
-        times[line] = times.get(line, 0) + 1
-    notes = ["  " + summaries.File(text, count, why).text(None) for (text, why), count in times.items()]
-    words = losses.words_of(code, "python")
-    return [summaries.Count(code if is_counted else code + ", not counted", len(of) if is_counted else None, words, notes)] if of else []
-
-
 class Class:
     """A class: its name, where it is made, and how."""
 
@@ -250,7 +206,9 @@ class Names:
     def fitting(self, name):
         """The name as the format allows it, different from that of any other class. What stands before an `@` would be read as a type of
         locks, so one of a file or module is written as `%40`."""
-        name = "".join(letter if "!" <= letter <= "~" and letter not in ',"' else "_" for letter in name).replace("@", "%40")
+        if not FITTING.issuperset(name):
+            name = "".join(letter if letter in FITTING else "_" for letter in name)
+        name = name.replace("@", "%40")
         number, fitting = 1, cut(name)
         while fitting in self.taken:
             number += 1
@@ -298,11 +256,18 @@ class Trace(finishing.Trace):
 
     def take_part(self, part):
         start = len(self.by_lock) if self.segments else 1
+        left_out = part.process.left_out
         for code, place in part.records:
-            if not part.process.joins.is_left_out(code >> 3):
+            if code >> 3 in left_out:
+                continue
+            if code & 7 != RELEASE:
                 self.take_record(code, place)
-        for key, _, _ in list(reversed(self.held)) if part is not self.task else []:  # (as after an error in the recorder)
-            self.give_back(key)
+                continue
+            self.give_back(code >> 3)
+            if self.is_joined:
+                self.take_life()
+        for taken in list(reversed(self.held)) if part is not self.task else []:  # (as after an error in the recorder)
+            self.give_back(taken.key)
         self.segments.append((part, start, len(self.by_lock)))
 
     def take_life(self):
@@ -314,21 +279,30 @@ class Trace(finishing.Trace):
         self.take(LIFE, key[0].name, self.names.of_lock(key) if is_written else None, "w", [key[0].place])
 
     def take_record(self, code, place):
-        if code & 7 == RELEASE:
-            self.give_back(code >> 3)
-            self.take_life()
-            return
         if self.is_joined and len(self.held) == MOST_HELD:
             self.give_back(LIFE)
             self.beyond_held += 1
         process = self.task.process
-        key = process.key(code >> 3)
-        is_written = self.names.use(key[0])
-        self.lost += not is_written
-        places = [text for text in process.places.get(place, "").split("\t") if text]
-        lock = self.names.of_lock(key) if is_written else None
-        self.take(code >> 3, key[0].name, lock, WORDS[code & 7], places, WEAK.get(code & 7, ""))
-        self.ending.update([len(self.by_lock) - 1] if code & 7 in WEAK else [])
+        taken = process.taken.get(code)
+        if taken is None:
+            taken = process.taken[code] = self.taken_by(code)
+        self.take_known(taken, process.places.get(place, ()))
+        if taken.lock is None:
+            self.lost += 1
+        if taken.weak:
+            self.ending.add(len(self.by_lock) - 1)
+
+    def taken_by(self, code):
+        """What an acquisition takes."""
+        key = self.task.process.key(code >> 3)
+        lock = self.names.of_lock(key) if self.names.use(key[0]) else None
+        return finishing.Taken(code >> 3, key[0].name, lock, WORDS[code & 7], WEAK.get(code & 7, ""))
+
+
+def is_of_process(name):
+    """Whether a file of this name is that of a process."""
+    process, _, number = name.partition("-")
+    return driver.is_number(process) and driver.is_number(number)
 
 
 def began(path):
@@ -341,7 +315,7 @@ def began(path):
 def read_all(raw):
     """The processes of a recording, those that began first coming first."""
     names, processes = Names(), []
-    for path in sorted((os.path.join(raw, name) for name in os.listdir(raw) if FILE.fullmatch(name)), key=began):
+    for path in sorted((os.path.join(raw, name) for name in os.listdir(raw) if is_of_process(name)), key=began):
         process = Process(len(processes) + 1, names)
         process.read(path)
         processes.append(process)
@@ -353,7 +327,7 @@ def read_all(raw):
 def note_end(tally, trace, name):
     """Who waits for a lock at the end, and who ended with one."""
     task = trace.task
-    tally.note_end(name, [of for key, of, _ in trace.held if key != LIFE], task.process.joins.is_waiting(task), task.has_ended)
+    tally.note_end(name, [taken.of for taken in trace.held if taken.key != LIFE], task.process.joins.is_waiting(task), task.has_ended)
     for codes in [codes for part in trace.parts for codes in part.broken_off]:
         names = [task.process.key(code >> 3)[0].name for code in codes]
         tally.note("waiting", "%s waited for %s, holding %s, until that was interrupted" % (name, names[-1], ", ".join(names[:-1])))
@@ -403,7 +377,6 @@ def write_all(folder, names, processes, tally):
 def write_traces(raw, folder, recorder, is_chosen):
     """Writes the traces of a recording and its classes. Both recorders that use this write such files. The result is what was counted. Programs with
     locks of other kinds count as left out unless the user chose this recorder."""
-    from lockdep.libraries import note_others
     names, processes = read_all(raw)
     tally = finishing.Tally(recorder)
     for process in processes:
@@ -411,16 +384,15 @@ def write_traces(raw, folder, recorder, is_chosen):
             tally.add({"alike": "threads-alike"}.get(name, name), count)
         tally.add("still-running", finishing.is_running(process.pid))
     of_signals = write_all(folder, names, processes, tally)
-    started = [start for process in processes for start in process.starts]
     counts = tally.recorded(len([process for process in processes if not process.is_inner]), len(names.used)) + tally.counts(summaries.NOTED) + why_nothing(recorder, tally, processes, names.used)
-    counts += count_of("unreached-runs", unreached(processes))
-    counts += count_of("pthread-runs", [start for start in started if start.kind == starts.PTHREAD], not is_chosen, {})
-    counts += count_of("other-runs", [start for start in started if start.kind in OTHERS], not is_chosen)
+    if any(process.starts for process in processes):
+        from . import started
+        counts += started.counts_of(processes, is_chosen)
     summary = summaries.Summary(counts + tally.counts(finishing.LOSSES) + of_signals)
     libraries = dict.fromkeys(library for process in processes for library in process.libraries)
-    found = [summaries.File(path) for path, is_watched in libraries if not is_watched and starts.calls_pthreads(path)]
-    summary.add("passed-pthreads" if is_chosen else "other-pthreads", found)
-    note_others(HOME, summary, list(dict.fromkeys(path for path, _ in libraries)), is_chosen)
+    if libraries:
+        from . import started
+        started.add_libraries(summary, libraries, is_chosen)
     return summary
 
 

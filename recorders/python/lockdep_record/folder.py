@@ -1,17 +1,28 @@
 """The folder of a recording by the recorders of Python and Java. It is that of the driver, tool/lockdep; only its traces are made here."""
 import errno
 import os
-import shutil
 import sys
 
 HOME = os.path.dirname(os.path.dirname(os.path.dirname(os.path.dirname(os.path.realpath(__file__)))))
 sys.path.insert(0, os.path.join(HOME, "tool"))
-from lockdep import finishing, folder as driver, joins, losses, seen, summary  # noqa: E402, F401
-from lockdep.recording import STAGE  # noqa: E402
+from lockdep import finishing, folder as driver, joins, losses, summary  # noqa: E402, F401
 from lockdep.saying import RUN, Refusal, say_refusal, typed  # noqa: E402, F401
 sys.path.pop(0)
 
 GUESSED = "guessed\n"  # in the mark of a recording whose recorder the user didn't name
+
+
+def remove(folder):
+    """Removes a folder with all that is in it, which is hardly ever more than files."""
+    with os.scandir(folder) as found:
+        entries = list(found)
+    if any(entry.is_dir(follow_symlinks=False) for entry in entries):
+        from shutil import rmtree  # (takes longer to import than all of this)
+        rmtree(folder)
+        return
+    for entry in entries:
+        os.unlink(entry.path)
+    os.rmdir(folder)
 
 
 class Folder(driver.Folder):
@@ -28,6 +39,8 @@ class Folder(driver.Folder):
 
     def watched(self, command, environment, is_chosen):
         """The environment of a command. Unless the user chose this recorder, the locks of C libraries are looked at too."""
+        if is_chosen and "LOCKDEP_LIBRARIES" not in environment:
+            return environment
         from lockdep import libraries
         return libraries.without(environment) if is_chosen else libraries.watched(HOME, self, command, environment)
 
@@ -42,16 +55,17 @@ class Folder(driver.Folder):
             fault = driver.fault(error, self.path)
             raise Refusal("%s; when there is some, `lockdep record --finish %s` makes the traces" % (fault, typed(self.path))
                           if error.errno in (errno.ENOSPC, errno.EDQUOT) else fault)
-        shutil.rmtree(self.raw)
-        shutil.rmtree(os.path.join(self.path, STAGE), ignore_errors=True)
+        remove(self.raw)
+        driver.remove_tree(os.path.join(self.path, driver.STAGE))
 
     def make_traces(self):
-        from lockdep import libraries
         from lockdep_record import finish
         with open(self.own_mark, encoding="utf-8") as file:
             is_chosen = file.read() != GUESSED
         made = finish.write_traces(self.raw, self.path, self.recorder, is_chosen)
-        libraries.add_traces(HOME, self.path, self.raw, made)
+        if os.path.isdir(os.path.join(self.raw, driver.INSIDE)):
+            from lockdep import libraries
+            libraries.add_traces(HOME, self.path, self.raw, made)
         summary.write(self.path, made, self.recorder)
         self.list_made()
 
@@ -83,5 +97,5 @@ class Folder(driver.Folder):
 
     def say_what_was_seen(self):
         """Prints what was recorded and what was left out. Returns 0, 1 if something was left out, and 2 if no lock was seen."""
-        found = self.summary()
-        return seen.say_what_was_seen(self.path, found, is_all_own=True) or (seen.LEFT_OUT if found.left_out() else seen.ALL)
+        from lockdep.seen import say_what_was_seen_of_own
+        return say_what_was_seen_of_own(self.path, self.summary())

@@ -4,7 +4,7 @@ whose signal isn't blocked in that thread. What the program sees are its own han
 import _signal
 import functools
 import os
-import weakref
+from _weakref import ref
 from itertools import count as counting
 from types import FunctionType, MethodType
 
@@ -79,7 +79,7 @@ def are_same(references, objects):
 
 def references_to(objects, is_kept):
     """Weak references, since an object that is gone may leave its number to another one; the code of a plain function is kept."""
-    return [None] * len(objects) if is_kept else [weakref.ref(each) for each in objects]
+    return [None] * len(objects) if is_kept else [ref(each) for each in objects]
 
 
 def source_of(number, handler, function):

@@ -87,9 +87,14 @@ def wait_without_end(record, acquire, release):
     return keep(record, WRITE, release)
 
 
+def is_code(code, other):
+    """Whether two codes are the same, perhaps in two copies of a module. (To compare a code with itself takes longer than to make a lock.)"""
+    return code is other or code == other
+
+
 def maker(frame):
     """The frame that a lock is made in: not that of `threading.RLock`, which only passes on what it is asked for."""
-    return frame.f_back if frame is not None and frame.f_code == of_rlock else frame
+    return frame.f_back if frame is not None and is_code(frame.f_code, of_rlock) else frame
 
 
 def reentrant_at(frame):
@@ -103,7 +108,8 @@ def is_own_use(frame):
     """Whether a lock is made here for `threading` itself, of which a program may load another copy, or for the import system."""
     if frame is None:
         return False
-    return frame.f_globals is of_imports or (frame.f_code.co_filename == of_condition.co_filename and frame.f_code != of_condition)
+    code = frame.f_code
+    return frame.f_globals is of_imports or (code.co_filename == of_condition.co_filename and not is_code(code, of_condition))
 
 
 class Replaced:
@@ -619,14 +625,14 @@ class Finder:
 
 # ---- The beginning.
 
-def replace_everywhere(old, new):
-    """Modules that were loaded before have the real functions under names of their own."""
+def replace_everywhere(replaced):
+    """Modules that were loaded before have the real functions under names of their own. What takes their place comes with their numbers."""
     for name, module in list(sys.modules.items()):
         if name in ("threading", "_thread", __name__, recording.__name__) or module is _bootstrap:
             continue
         for own, value in list(vars(module).items()):
-            if value is old:
-                setattr(module, own, new)
+            if id(value) in replaced:
+                setattr(module, own, replaced[id(value)])
 
 
 def replace_locks():
@@ -634,8 +640,7 @@ def replace_locks():
     real_lock = threading.Lock
     threading.Lock = _thread.allocate_lock = _thread.allocate = _thread.LockType = lock
     threading._CRLock = _thread.RLock = RLock  # (`threading.RLock` itself stays, and makes what it finds there)
-    for old, new in ((real_lock, lock), (allocate, lock), (RealLock, lock), (RealRLock, RLock)):
-        replace_everywhere(old, new)
+    replace_everywhere({id(real_lock): lock, id(allocate): lock, id(RealLock): lock, id(RealRLock): RLock})
     replace_python_rlocks()
     replace_semaphores()
 

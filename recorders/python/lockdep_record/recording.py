@@ -99,8 +99,8 @@ def is_library_own(chain):
     return kinds.get(name) == LIBRARY and (name[:1] != "<" or name.startswith("<frozen "))
 
 
-def chain_of(frame):
-    """The frames of a place, each as its code and instruction: the innermost one, and the first one of the program, if that is another."""
+def ends_of(frame):
+    """The frames of a place: the innermost one, and the first one of the program, if that is another."""
     inner = outer = None
     left = MOST_PASSED
     while frame is not None and left:
@@ -115,8 +115,13 @@ def chain_of(frame):
             left -= 1
         frame = frame.f_back
     if inner is outer:
-        return () if inner is None else ((inner.f_code, inner.f_lasti),)
-    return (inner.f_code, inner.f_lasti), (outer.f_code, outer.f_lasti)
+        return () if inner is None else (inner,)
+    return inner, outer
+
+
+def chain_of(frame):
+    """The frames of a place, each as its code and instruction."""
+    return tuple([(each.f_code, each.f_lasti) for each in ends_of(frame)])
 
 
 # Where the library takes a lock by `with`, its frame runs on until that lock is given back, and so do those further out. Until then the
@@ -149,18 +154,21 @@ def settled(place):
 
 def line_of(code, instruction):
     """The line of an instruction."""
+    return next((line for start, end, line in lines_of(code) if start <= instruction < end), code.co_firstlineno)
+
+
+def lines_of(code):
+    """Where the lines of a code begin and end, each with its number."""
     if hasattr(code, "co_lines"):
         for start, end, line in code.co_lines():
-            if start <= instruction < end and line is not None:
-                return line
-        return code.co_firstlineno
+            yield start, end, code.co_firstlineno if line is None else line
+        return
     from dis import findlinestarts
-    found = code.co_firstlineno
-    for start, line in findlinestarts(code):
-        if start > instruction:
-            break
-        found = line
-    return found
+    start, line = 0, code.co_firstlineno
+    for end, following in findlinestarts(code):
+        yield start, end, line
+        start, line = end, following
+    yield start, len(code.co_code), line
 
 
 def place_text(chain):
@@ -204,15 +212,28 @@ class_numbers = counting(1)
 
 def call_number(code, instruction):
     """Which of the calls on its line an instruction is, from 1."""
-    from dis import get_instructions
-    line, number, is_call = line_of(code, instruction), 0, False
-    for each in get_instructions(code):
-        if each.offset > instruction:  # (which may be within a call: behind the code of one that runs a function of Python)
-            break
-        was_call, is_call = is_call, each.opname.startswith(("CALL", "PRECALL")) and "INTRINSIC" not in each.opname
-        if is_call and not (was_call and each.opname == "CALL") and line_of(code, each.offset) == line:
-            number += 1
+    from opcode import opname
+    names = [opname[operation] for operation in code.co_code[:instruction + 1:2]]
+    line, number = line_of(code, instruction), 0
+    for start, end, of_range in lines_of(code):
+        if of_range == line:
+            # (the instruction may be within a call: behind the code of one that runs a function of Python)
+            number += sum(begins_call(names, at) for at in range(start // 2, min(end, instruction + 2) // 2))
     return max(number, 1)
+
+
+def begins_call(names, at):
+    """Whether an instruction calls something, by the names of all. Python 3.11 has two for a call."""
+    if not is_call(names[at]):
+        return False
+    before = at - 1
+    while before >= 0 and names[before] == "CACHE":
+        before -= 1
+    return not (names[at] == "CALL" and before >= 0 and is_call(names[before]))
+
+
+def is_call(name):
+    return name.startswith(("CALL", "PRECALL")) and "INTRINSIC" not in name
 
 
 def name_of_module(names, code):
@@ -242,10 +263,10 @@ def function_of(frame):
 
 def made_at(frame, kind):
     """The class of what is made in this frame."""
-    chain = chain_of(frame)
-    key = key_of(chain)
+    key = tuple([key_at(each) for each in ends_of(frame)])
     made = classes.get(key)
     if made is None:
+        chain = chain_of(frame)
         name = name_of(frame, chain)
         made = class_in(key, lambda number: Made(number, name, chain, "library" if is_library_own(chain) else kind))
     return made
@@ -254,6 +275,12 @@ def made_at(frame, kind):
 def class_in(key, make):
     """The class that the table has under a key, which is made with its number if there is none."""
     return classes.get(key) or classes.setdefault(key, make(next(class_numbers)))  # (without a lock: a signal's handler may come in)
+
+
+def key_at(frame):
+    """A frame as a part of such a key."""
+    code = frame.f_code
+    return code.co_filename, code.co_firstlineno, code.co_name, frame.f_lasti
 
 
 def key_of(chain):

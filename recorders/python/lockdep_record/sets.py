@@ -1,6 +1,5 @@
 """Makes the sets of traces of signals' handlers. In that of a handler its runs are hardware interrupts, and hardirqs are on in the main thread
 where it may come in. The other threads' code has them off, since Python runs handlers in the main thread only."""
-import json
 import os
 
 from .folder import driver, finishing, summary
@@ -71,9 +70,9 @@ class Lines:
 
     def add_releases(self, trace):
         """What is held at a trace's end is given back."""
-        for _, _, lock in reversed(trace.held if trace is not None else []):
-            if lock is not None:
-                self.add_line("rel,%s,0" % lock)
+        for taken in reversed(trace.held if trace is not None else []):
+            if taken.lock is not None:
+                self.add_line(taken.end_of_lock)
 
 
 def as_readers(line, reentrant):
@@ -102,6 +101,7 @@ def taken_in(trace):
 
 
 def write_list(folder, name, said):
+    import json
     rows = ",\n".join(json.dumps(each) for each in said)
     summary.put(os.path.join(folder, driver.SIGNALS, name), "[\n%s\n]\n" % rows if rows else "[]\n")
 

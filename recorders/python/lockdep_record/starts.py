@@ -4,7 +4,6 @@ plain. What other programs start isn't known here.
 
 `finish` knows whether a Python that was started is among those that were recorded: by the words that both have."""
 import os
-import re
 import sys
 
 from . import recording
@@ -15,7 +14,7 @@ MOST_WORDS, LONGEST_WORD = 32, 200  # of a command, how many of the last are not
 MOST_READ = 8000000  # of a program's file: the names of what it calls lie near its beginning
 SYSTEM = ("/bin/", "/sbin/", "/lib/", "/lib32/", "/lib64/", "/libx32/", "/usr/bin/", "/usr/sbin/", "/usr/lib/", "/usr/lib32/", "/usr/lib64/", "/usr/libx32/",
           "/usr/libexec/")
-INTERPRETERS = re.compile(r".*/(?:libpython[0-9]|libpypy[-0-9])[^/]*|.*/(?:python|pypy)[0-9.]*t?/lib-dynload/.*")  # its own libraries and modules
+INTERPRETERS = tuple(name + letter for name, letters in (("libpython", "0123456789"), ("libpypy", "-0123456789")) for letter in letters)
 CALLS = tuple(b"\0pthread_%s\0" % name for name in (b"mutex_lock", b"mutex_trylock", b"rwlock_rdlock", b"rwlock_wrlock", b"spin_lock"))
 SHELLS = frozenset(("sh", "bash", "dash", "ksh", "zsh"))
 PASSES_ON = frozenset(("env", "exec", "nice", "nohup", "setsid", "stdbuf", "time", "timeout"))  # what starts the program that it names
@@ -207,9 +206,16 @@ def libraries():
         for line in file:
             words = line.rstrip("\n").split(None, 5)
             path = words[5] if len(words) > 5 and "x" in words[1] else ""
-            if path.startswith("/") and not path.startswith(SYSTEM) and path != own and not INTERPRETERS.fullmatch(path) and not path.endswith(PRELOADED):
+            if path.startswith("/") and not path.startswith(SYSTEM) and path != own and not path.endswith(PRELOADED):
                 found[path] = True
-    return list(found)
+    return [path for path in found if not is_of_interpreter(path)]
+
+
+def is_of_interpreter(path):
+    """Whether a library is the interpreter's own, or one of its modules, as in python3.13t/lib-dynload."""
+    *folders, name = path.split("/")
+    return name.startswith(INTERPRETERS) or any(
+        below == "lib-dynload" and is_python_name(above[:-1] if above.endswith("t") else above) for above, below in zip(folders, folders[1:]))
 
 
 def library_lines():
