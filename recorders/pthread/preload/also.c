@@ -80,7 +80,8 @@ static inline void found_done(uintptr_t control, struct call call) {
     releasing(control, call);
 }
 
-/* The routine may throw. */
+/* The routine may throw. (That of the unwinder takes no lock: if it runs as a thread ends by pthread_exit, who joins that may know that it takes
+   none any more.) */
 #define ONCE(name, answer, type)                                                                                       \
     EXPORT answer name(type *control, void (*routine)(void)) {                                                         \
         begin_once();                                                                                                  \
@@ -90,6 +91,8 @@ static inline void found_done(uintptr_t control, struct call call) {
             found_done((uintptr_t)control, HERE);                                                                      \
             return REAL(name)(control, routine);                                                                       \
         }                                                                                                              \
+        if (is_in_unwinder(CALLER))                                                                                    \
+            return REAL(name)(control, routine);                                                                       \
         struct once once __attribute__((cleanup(end_once))) = {(uintptr_t)control, HERE, routine, false, self.midst.once};  \
         once.is_recorded = begin_wish(once.control, MODE_WRITE, KIND_ONCE, once.call);                                 \
         self.midst.once = &once;                                                                                            \

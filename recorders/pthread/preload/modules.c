@@ -7,6 +7,7 @@
 #include <errno.h>
 #include <fcntl.h>
 #include <link.h>
+#include <string.h>
 #include <sys/syscall.h>
 #include <unistd.h>
 
@@ -255,8 +256,20 @@ static bool is_mapped(const struct module *m) { return dl_iterate_phdr(is_told, 
 
 #endif
 
+/* The library that exceptions and the ends of threads go through. */
+static bool is_unwinder(const char *path) {
+    static const char name[] = "libgcc_s.so";
+    const char *slash = strrchr(path, '/');
+    return strncmp(slash ? slash + 1 : path, name, sizeof name - 1) == 0;
+}
+
 /* (nothing has to be recorded for that) */
 #ifdef HAS_FIND_OBJECT
+
+bool is_in_unwinder(uintptr_t address) {
+    struct dl_find_object found;
+    return find_object((void *)address, &found) == 0 && is_unwinder(found.dlfo_link_map->l_name);
+}
 
 bool put_path_of(uintptr_t address, char *path) {
     struct dl_find_object found;
@@ -282,6 +295,14 @@ static int put_if_there(struct dl_phdr_info *info, size_t size, void *what) {
         put_text(sought->path, info->dlpi_name, RAW_PATH);
     return is_there;
 }
+
+static int is_there_unwinder(struct dl_phdr_info *info, size_t size, void *address) {
+    (void)size;
+    struct module m = module_told(info);
+    return (uintptr_t)address >= m.from && (uintptr_t)address < m.to && is_unwinder(info->dlpi_name);
+}
+
+bool is_in_unwinder(uintptr_t address) { return dl_iterate_phdr(is_there_unwinder, (void *)address) != 0; }
 
 bool put_path_of(uintptr_t address, char *path) {
     return dl_iterate_phdr(put_if_there, &(struct sought){address, path}) != 0;

@@ -180,6 +180,7 @@ uint64_t word_of(uintptr_t address);
 void forget_closed_modules(void);
 bool is_gone(uint32_t module);
 bool own_part_word(intptr_t from_pointer, uint64_t *word);
+bool is_in_unwinder(uintptr_t address);
 bool put_path_of(uintptr_t address, char *path); /* of the module that has it, empty for the program itself; false: there is none */
 
 /* ---- stacks.c */

@@ -3,6 +3,7 @@
      made     the same, and the lock is initialised by a call
      ended    as held, but the thread ends at once, and is joined only then
      says     the thread says under the lock that it is done, and who joins it with the lock held waits for that
+     exits    the same, and then it ends by pthread_exit, when it is waited for
      woken    as held, and the thread waits for a condition, which comes when it is waited for, and then ends at once
      both     says, and held with other locks and threads
      again    ended, and then held with another thread
@@ -59,11 +60,24 @@ static void *worker(void *unused) {
     return unused;
 }
 
+/* Waits until the first thread joins, however that waits. */
+static void await_first_asleep(void) {
+    unsigned long times = 0;
+    char first_thread[16];
+    snprintf(first_thread, sizeof first_thread, "%d", getpid());
+    while (!__atomic_load_n(&is_last, __ATOMIC_SEQ_CST) || !asleep_till_woken(getpid(), first_thread, &times))
+        sched_yield();
+}
+
 static void *finisher(void *unused) {
     pthread_mutex_lock(&log_lock);
     is_done = 1;
     pthread_cond_signal(&has_said);
     pthread_mutex_unlock(&log_lock);
+    if (is("exits")) {
+        await_first_asleep();
+        pthread_exit(unused);
+    }
     return unused;
 }
 
@@ -94,13 +108,9 @@ static void *waits_for_condition(void *unused) {
     return unused;
 }
 
-/* Says that it is done as soon as the first thread joins, however it waits. */
+/* Says that it is done as soon as the first thread joins. */
 static void *waker(void *unused) {
-    unsigned long times = 0;
-    char first_thread[16];
-    snprintf(first_thread, sizeof first_thread, "%d", getpid());
-    while (!__atomic_load_n(&is_last, __ATOMIC_SEQ_CST) || !asleep_till_woken(getpid(), first_thread, &times))
-        sched_yield();
+    await_first_asleep();
     return finisher(unused);
 }
 
@@ -127,10 +137,12 @@ static void join_under(pthread_mutex_t *lock, pthread_t thread) {
 
 static void join_finisher(void) {
     pthread_t thread;
+    set(&is_last, 0);
     pthread_create(&thread, NULL, finisher, NULL);
     pthread_mutex_lock(&log_lock);
     while (!is_done)
         pthread_cond_wait(&has_said, &log_lock);
+    set(&is_last, 1);
     pthread_join(thread, NULL);
     pthread_mutex_unlock(&log_lock);
 }
@@ -173,7 +185,7 @@ int main(int argc, char **argv) {
         join_under(taken, started(worker));
     if (is("woken"))
         join_woken();
-    if (is("says") || is("both"))
+    if (is("says") || is("exits") || is("both"))
         join_finisher();
     if (is("held") || is("made") || is("both") || is("again"))
         join_going_on();
