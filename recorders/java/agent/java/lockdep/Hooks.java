@@ -27,6 +27,7 @@ public final class Hooks {
         enter(object, site, false);
     }
 
+    @Apart
     private static void enter(Object object, int site, boolean isAsked) {
         Task task = object == null ? null : Task.begin();
         if (task == null) return;
@@ -40,6 +41,7 @@ public final class Hooks {
     }
 
     /** A monitor is about to be exited. */
+    @Apart
     public static void exit(Object object) {
         Task task = object == null ? null : Task.begin();
         if (task == null) return;
@@ -108,6 +110,7 @@ public final class Hooks {
     // ---- Objects that are made.
 
     /** An object was made at a place. */
+    @Apart
     public static void made(Object object, int site) {
         Task task = object == null ? null : Task.begin();
         if (task == null) return;
@@ -127,6 +130,7 @@ public final class Hooks {
     }
 
     /** The constructor begins for an object whose own class takes its monitor, or that is a lock. */
+    @Apart
     public static void born(Object object) {
         Task task = Task.begin();
         if (task == null) return;
@@ -188,6 +192,7 @@ public final class Hooks {
 
     // ---- Locks.
 
+    @Apart
     public static void lock(Lock lock, int site) {
         Wish wish = Wish.of(lock, Modes.Manner.WAITS, site);
         boolean isTaken = false;
@@ -256,6 +261,7 @@ public final class Hooks {
     }
 
     /** A try of a lock, or of a part of it, was made. */
+    @Apart
     static void tried(Object lock, boolean isTaken, int site) {
         Task task = Task.begin();
         if (task == null) return;
@@ -270,6 +276,7 @@ public final class Hooks {
     }
 
     /** A lock is about to be released. Returns whether it was seen to be taken, or isn't to be recorded. */
+    @Apart
     static boolean gives(Object lock, int site) {
         Task task = lock == null ? null : Task.begin();
         if (task == null) return true;

@@ -1,10 +1,9 @@
 package java.lockdep;
 
-import java.lang.invoke.MethodHandles;
-import java.lang.invoke.VarHandle;
 import java.lang.ref.Reference;
 import java.lang.ref.ReferenceQueue;
 import java.lang.ref.WeakReference;
+import java.lang.reflect.Field;
 import java.util.concurrent.ConcurrentHashMap;
 import java.util.concurrent.locks.Condition;
 import java.util.concurrent.locks.Lock;
@@ -20,8 +19,10 @@ import java.util.concurrent.locks.StampedLock;
  */
 final class Known extends WeakReference<Object> {
     static final int MOST_APART = 32;
+    /** So many locks have room before the table grows. */
+    private static final int FIRST_ROOM = 1 << 14;
 
-    private static final ConcurrentHashMap<Object, Known> all = new ConcurrentHashMap<>(1024);
+    private static final ConcurrentHashMap<Object, Known> all = new ConcurrentHashMap<>(FIRST_ROOM);
     private static final ReferenceQueue<Object> gone = new ReferenceQueue<>();
 
     /** Finds what is known about an object. Each thread has its own. */
@@ -216,8 +217,8 @@ final class Known extends WeakReference<Object> {
 
     // ---- The two views of a read-write lock have one object inside.
 
-    private static volatile VarHandle ofReader;
-    private static volatile VarHandle ofWriter;
+    private static volatile Field ofReader;
+    private static volatile Field ofWriter;
 
     /** Finds out how to look into the views, for which the locks' package has been opened. */
     static void openViews() throws ReflectiveOperationException {
@@ -225,23 +226,25 @@ final class Known extends WeakReference<Object> {
         ofWriter = inside(ReentrantReadWriteLock.WriteLock.class);
     }
 
-    private static VarHandle inside(Class<?> view) throws ReflectiveOperationException {
-        Class<?> type = Class.forName("java.util.concurrent.locks.ReentrantReadWriteLock$Sync");
-        return MethodHandles.privateLookupIn(view, MethodHandles.lookup()).findVarHandle(view, "sync", type);
+    private static Field inside(Class<?> view) throws ReflectiveOperationException {
+        Field found = view.getDeclaredField("sync");
+        found.setAccessible(true);
+        return found;
     }
 
     @Apart
     private static Object baseOf(Object lock) {
-        VarHandle reader = ofReader;
-        VarHandle writer = ofWriter;
+        Field reader = ofReader;
+        Field writer = ofWriter;
         if (reader == null || writer == null) return lock;
-        if (lock instanceof ReentrantReadWriteLock)
-                return (Object) writer.get(((ReentrantReadWriteLock) lock).writeLock());
-        if (lock instanceof ReentrantReadWriteLock.ReadLock)
-                return (Object) reader.get((ReentrantReadWriteLock.ReadLock) lock);
-        if (lock instanceof ReentrantReadWriteLock.WriteLock)
-                return (Object) writer.get((ReentrantReadWriteLock.WriteLock) lock);
-        return lock;
+        try {
+            if (lock instanceof ReentrantReadWriteLock) return writer.get(((ReentrantReadWriteLock) lock).writeLock());
+            if (lock instanceof ReentrantReadWriteLock.ReadLock) return reader.get(lock);
+            if (lock instanceof ReentrantReadWriteLock.WriteLock) return writer.get(lock);
+            return lock;
+        } catch (IllegalAccessException closed) {
+            return lock;
+        }
     }
 
     // ---- Threads, which are locks to who joins them.

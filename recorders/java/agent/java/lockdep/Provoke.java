@@ -53,10 +53,14 @@ public final class Provoke {
     /** How often all callers are looked at, at one place. */
     private static final int MOST_WALKS = 2000;
 
-    /** The name of a class that is neither changed nor cut in a trace. */
-    private static final Pattern PLAIN_NAME = Pattern.compile("[!#-+./-?A-~-]{1,53}");
     private static final int BITS_OF_CLASS = 28;
-    private static final VarHandle WORD = MethodHandles.byteBufferViewVarHandle(int[].class, ByteOrder.nativeOrder());
+
+    /** What takes long to make, and isn't needed to record. */
+    private static final class Later {
+        /** The name of a class that is neither changed nor cut in a trace. */
+        static final Pattern PLAIN_NAME = Pattern.compile("[!#-+./-?A-~-]{1,53}");
+        static final VarHandle WORD = MethodHandles.byteBufferViewVarHandle(int[].class, ByteOrder.nativeOrder());
+    }
 
     private static Provoke it;
 
@@ -73,7 +77,7 @@ public final class Provoke {
     private final File texts;
     private final HashMap<String, Fits> plan = new HashMap<>();
     private final HashMap<String, Long> numbers = new HashMap<>();
-    private final int pid = (int) ProcessHandle.current().pid();
+    private final int pid = (int) Recording.pid();
     private final int pause;
     private long paused;
     private long locks;
@@ -150,7 +154,7 @@ public final class Provoke {
     static void end(Stand stand) {
         if (stand == null || stand.place == 0) return;
         it.all.remove(stand);
-        WORD.setVolatile((ByteBuffer) it.table, stand.place, 0);
+        Later.WORD.setVolatile((ByteBuffer) it.table, stand.place, 0);
     }
 
     // ---- Standing.
@@ -163,7 +167,7 @@ public final class Provoke {
         if (stand.depth == 0) return;
         int order = Long.numberOfTrailingZeros(under == 0 ? wants : under);
         stand.order = under == 0 ? 0 : order + 1;
-        int before = (int) WORD.getVolatile((ByteBuffer) table, COUNTS + 16 * order + 4 * PAUSES);
+        int before = (int) Later.WORD.getVolatile((ByteBuffer) table, COUNTS + 16 * order + 4 * PAUSES);
         if (before >= MOST_PAUSES || paused() >= MOST_PAUSED) return;
         count(1L << order, PAUSES);
         stand.goes = false;
@@ -173,7 +177,7 @@ public final class Provoke {
 
     private void count(long orders, int what) {
         for (long left = orders; left != 0; left &= left - 1) {
-            WORD.getAndAdd((ByteBuffer) table, COUNTS + 16 * Long.numberOfTrailingZeros(left) + 4 * what, 1);
+            Later.WORD.getAndAdd((ByteBuffer) table, COUNTS + 16 * Long.numberOfTrailingZeros(left) + 4 * what, 1);
         }
     }
 
@@ -213,7 +217,7 @@ public final class Provoke {
     private int freePlace() {
         for (int at = 0; at < MOST_THREADS; at++) {
             int place = FIRST_THREAD + at * SIZE_OF_THREAD;
-            if (WORD.compareAndSet((ByteBuffer) table, place, 0, pid)) {
+            if (Later.WORD.compareAndSet((ByteBuffer) table, place, 0, pid)) {
                 table.putInt(place + 4, threadNumber());
                 table.putInt(place + 12, RUNS);
                 return place;
@@ -268,7 +272,7 @@ public final class Provoke {
     private synchronized long newNumber(Known lock) {
         String name = lock.name();
         if (lock.number == 0) {
-            lock.number = ++locks << BITS_OF_CLASS | (PLAIN_NAME.matcher(name).matches() ? number(name) : 0);
+            lock.number = ++locks << BITS_OF_CLASS | (Later.PLAIN_NAME.matcher(name).matches() ? number(name) : 0);
         }
         return lock.number;
     }

@@ -50,13 +50,22 @@ public final class Recording {
 
     /** From here on this process is recorded, into a folder of the recordings of all processes. */
     public static void begin(File folder, String[] sourceFolders) throws IOException {
-        long pid = ProcessHandle.current().pid();
+        long pid = pid();
         int number = 0;
         File path = new File(folder, pid + "-" + number);
         while (!path.createNewFile()) path = new File(folder, pid + "-" + ++number);
         Recording recording = new Recording(path);
         recording.put("process " + pid + " " + System.currentTimeMillis() + "000000\n");
         begin(recording, sourceFolders);
+    }
+
+    /** The number of this process. (To ask the JDK for it makes a pool of threads.) */
+    static long pid() {
+        try {
+            return Long.parseLong(new File("/proc/self").getCanonicalFile().getName());
+        } catch (IOException | NumberFormatException notThere) {
+            return ProcessHandle.current().pid();
+        }
     }
 
     /** From here on it is known what threads hold, and nothing is written. */
@@ -80,15 +89,28 @@ public final class Recording {
         Known.openViews();
     }
 
+    /** Loads what tasks need, before any class of the JDK that it needs itself is rewritten. */
+    public static void warmUp() {
+        Task.ofThisThread();
+    }
+
     /** Ends the recording after the program's own shutdown hooks; or at the same time, if the JDK doesn't allow that. */
     public static void atEnd(int place) {
         try {
             Method add = Class.forName("java.lang.Shutdown").getDeclaredMethod("add", int.class, boolean.class,
                     Runnable.class);
             add.setAccessible(true);
-            add.invoke(null, place, false, (Runnable) Recording::end);
+            add.invoke(null, place, false, new End());
         } catch (ReflectiveOperationException | RuntimeException closed) {
-            Runtime.getRuntime().addShutdownHook(new Thread(Recording::end));
+            Runtime.getRuntime().addShutdownHook(new Thread(new End()));
+        }
+    }
+
+    /** (Not a lambda expression, since to make the first one of a process takes long.) */
+    private static final class End implements Runnable {
+        @Override
+        public void run() {
+            end();
         }
     }
 
@@ -275,10 +297,14 @@ public final class Recording {
 
     private void addCounts(StringBuilder lines) {
         for (int at = 0; at < names.length; at++) {
-            if (counts[at] != told[at]) lines.append("S ").append(names[at]).append(' ').append(counts[at])
-                    .append('\n');
-            told[at] = counts[at];
+            if (counts[at] != told[at]) addCount(at, lines);
         }
+    }
+
+    @Apart
+    private void addCount(int at, StringBuilder lines) {
+        lines.append("S ").append(names[at]).append(' ').append(counts[at]).append('\n');
+        told[at] = counts[at];
     }
 
     // ---- The end of a task.
@@ -308,7 +334,9 @@ public final class Recording {
         if (task.number == 0 && task.depth() == 0) {
             int codes = 1;
             for (int at = 0; at < task.size; at++) codes = 31 * codes + task.records[2 * at];
-            if (like.merge(codes, 1, Integer::sum) > MOST_ALIKE) {
+            int alike = like.getOrDefault(codes, 0) + 1;
+            like.put(codes, alike);
+            if (alike > MOST_ALIKE) {
                 counts[7]++;
                 return;
             }

@@ -1,9 +1,12 @@
 package java.lockdep;
 
 import java.util.Arrays;
-import java.util.Iterator;
 import java.util.Set;
+import java.util.Spliterator;
 import java.util.concurrent.ConcurrentHashMap;
+import java.util.function.Consumer;
+import java.util.function.Function;
+import java.util.stream.Stream;
 
 /** A place of the program that does something with locks: a line of a method. Rewritten code names it by its number. */
 public final class Site {
@@ -15,6 +18,10 @@ public final class Site {
     private static final int FRAMES_OF_RECORDER = 2;
     private static final StackWalker walker = StackWalker.getInstance(Set.of(StackWalker.Option.RETAIN_CLASS_REFERENCE,
             StackWalker.Option.SHOW_REFLECT_FRAMES));
+
+    /** The same for who doesn't look far. */
+    private static final StackWalker near = StackWalker.getInstance(Set.of(StackWalker.Option.RETAIN_CLASS_REFERENCE,
+            StackWalker.Option.SHOW_REFLECT_FRAMES), FRAMES_OF_RECORDER + 3);
 
     private static volatile Site[] all = new Site[1024];
     private static int count;
@@ -205,16 +212,36 @@ public final class Site {
      */
     @Apart
     static Made madeByCaller(Object object) {
-        return walker.walk(frames -> madeByCaller(frames.iterator(), object));
+        CallerOf caller = new CallerOf(object);
+        near.walk(caller);
+        return caller.made;
     }
 
-    private static Made madeByCaller(Iterator<StackWalker.StackFrame> frames, Object object) {
-        for (int left = FRAMES_OF_RECORDER; left > 0; left--) frames.next();
-        while (frames.hasNext()) {
-            StackWalker.StackFrame frame = frames.next();
-            if (!isConstructor(frame, object)) return isOfProgram(frame.getDeclaringClass()) ? madeBy(frame) : null;
+    /** Looks for the caller of an object's constructor, the innermost first. */
+    private static final class CallerOf implements Function<Stream<StackWalker.StackFrame>, Void>,
+            Consumer<StackWalker.StackFrame> {
+        private final Object object;
+        private int left = FRAMES_OF_RECORDER;
+        private boolean isFound;
+        Made made;
+
+        CallerOf(Object object) {
+            this.object = object;
         }
-        return null;
+
+        @Override
+        public Void apply(Stream<StackWalker.StackFrame> all) {
+            Spliterator<StackWalker.StackFrame> frames = all.spliterator();
+            while (!isFound && frames.tryAdvance(this)) { }
+            return null;
+        }
+
+        @Override
+        public void accept(StackWalker.StackFrame frame) {
+            if (left-- > 0 || isConstructor(frame, object)) return;
+            isFound = true;
+            made = isOfProgram(frame.getDeclaringClass()) ? madeBy(frame) : null;
+        }
     }
 
     @Apart

@@ -13,6 +13,7 @@ public final class Source {
             "app/src/main/java",
         "src/main/kotlin", "src/main/scala", "src/main/groovy"};
     private static final int MOST_ABOVE = 4;
+    private static final ConcurrentHashMap<String, Places> places = new ConcurrentHashMap<>();
 
     public final String className;
     public final boolean isOfJdk;
@@ -72,36 +73,57 @@ public final class Source {
 
     private String find(String inPackage) {
         try {
-            for (String root : roots()) {
-                for (String below : BELOW) {
-                    File folder = below.isEmpty() ? new File(root) : new File(root, below);
-                    File file = new File(folder, inPackage);
-                    if (file.isFile()) return file.getPath();
-                }
-            }
-            for (String root : roots()) {
-                File file = new File(root, fileName);
-                if (file.isFile()) return file.getPath();
-            }
+            return Places.of(location == null ? "" : location).find(inPackage, fileName);
         } catch (RuntimeException mayNotLook) {
             return null;
         }
-        return null;
     }
 
-    /**
-     * The folders below which the sources may be: those that were named, those above the class files, and the current
-     * one.
-     */
-    private List<String> roots() {
-        List<String> roots = new ArrayList<>();
-        for (String named : Recording.sources) roots.add(new File(named).getAbsolutePath());
-        File above = location == null ? null : new File(location).getAbsoluteFile();
-        for (int count = 0; above != null && above.getParentFile() != null && count <= MOST_ABOVE; count++) {
-            if (above.isDirectory()) roots.add(above.getPath());
-            above = above.getParentFile();
+    /** Where the sources of what a folder or jar has may be, which is looked for once. */
+    private static final class Places {
+        private final List<String> roots = new ArrayList<>();
+        /** The folders below the roots that are there. */
+        private final List<File> folders = new ArrayList<>();
+
+        static Places of(String location) {
+            Places found = places.get(location);
+            if (found == null) places.put(location, found = new Places(location));
+            return found;
         }
-        roots.add(new File("").getAbsolutePath());
-        return roots;
+
+        /**
+         * The roots are the folders that were named, those above the class files, and the current one; of no folder or
+         * jar, an empty text, only the first and the last.
+         */
+        Places(String location) {
+            for (String named : Recording.sources) roots.add(new File(named).getAbsolutePath());
+            File above = location.isEmpty() ? null : new File(location).getAbsoluteFile();
+            for (int count = 0; above != null && above.getParentFile() != null && count <= MOST_ABOVE; count++) {
+                if (above.isDirectory()) roots.add(above.getPath());
+                above = above.getParentFile();
+            }
+            roots.add(new File("").getAbsolutePath());
+            for (String root : roots) addFolders(root);
+        }
+
+        private void addFolders(String root) {
+            for (String below : BELOW) {
+                File folder = below.isEmpty() ? new File(root) : new File(root, below);
+                if (folder.isDirectory()) folders.add(folder);
+            }
+        }
+
+        /** The path of a file in one of the folders, or alone in a root; null if it isn't there. */
+        String find(String inPackage, String fileName) {
+            for (File folder : folders) {
+                File file = new File(folder, inPackage);
+                if (file.isFile()) return file.getPath();
+            }
+            for (String root : roots) {
+                File file = new File(root, fileName);
+                if (file.isFile()) return file.getPath();
+            }
+            return null;
+        }
     }
 }

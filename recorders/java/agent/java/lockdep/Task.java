@@ -1,10 +1,9 @@
 package java.lockdep;
 
-import java.lang.invoke.MethodHandles;
-import java.lang.invoke.VarHandle;
 import java.lang.ref.WeakReference;
 import java.util.ArrayList;
 import java.util.Arrays;
+import java.util.concurrent.atomic.AtomicIntegerFieldUpdater;
 
 /**
  * A thread: what it holds, and its records that aren't in the file yet. Only the thread itself works on it, except at
@@ -17,16 +16,8 @@ final class Task {
 
     private static final int MOST_RECENT = 15;
 
-    private static final VarHandle BUSY;
+    private static final AtomicIntegerFieldUpdater<Task> BUSY = AtomicIntegerFieldUpdater.newUpdater(Task.class, "busy");
     private static final ThreadLocal<Task> here = new ThreadLocal<>();
-
-    static {
-        try {
-            BUSY = MethodHandles.lookup().findVarHandle(Task.class, "isBusy", boolean.class);
-        } catch (ReflectiveOperationException error) {
-            throw new ExceptionInInitializerError(error);
-        }
-    }
 
     final WeakReference<Thread> thread;
     final Known.Probe probe = new Known.Probe();
@@ -43,7 +34,8 @@ final class Task {
     /** Where the newest constructor that is told its place is called; 0 once it was asked. */
     int making;
     boolean isOver;
-    private boolean isBusy;
+    /** 1 while the task is being examined. */
+    private volatile int busy;
     private Held[] held = new Held[4];
     private int depth;
     private Way way = new Way(Recording.common);
@@ -84,8 +76,8 @@ final class Task {
 
     /** The running task is busy from here on, unless nothing is to be recorded now. */
     boolean beginAgain() {
-        if (isBusy || Recording.isOver) return false;
-        isBusy = true;
+        if (busy != 0 || Recording.isOver) return false;
+        BUSY.lazySet(this, 1);
         if (stand != null && stand.isAsking) Provoke.run(stand);
         return true;
     }
@@ -93,10 +85,10 @@ final class Task {
     @Apart
     private static Task add() {
         Task task = new Task();
-        task.isBusy = true;
+        BUSY.lazySet(task, 1);
         here.set(task);
         Recording.add(task);
-        task.isBusy = false;
+        task.leave();
         return task;
     }
 
@@ -113,11 +105,11 @@ final class Task {
 
     /** The task is no longer being examined. */
     void leave() {
-        BUSY.setRelease(this, false);
+        BUSY.lazySet(this, 0);
     }
 
     boolean isLookedAt() {
-        return (boolean) BUSY.getAcquire(this);
+        return busy != 0;
     }
 
     /**

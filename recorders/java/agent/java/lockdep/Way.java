@@ -60,6 +60,7 @@ final class Way {
         return null;
     }
 
+    @Apart
     private Way add(int code) {
         if (codes == null || 2 * ++count > codes.length) grow();
         Way way = new Way(common == null ? null : common.to(code));

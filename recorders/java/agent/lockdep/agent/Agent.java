@@ -31,6 +31,7 @@ public final class Agent {
         if (!isRecorded && plan == null || Recording.hasBegun()) return;
         Rewriter rewriter = new Rewriter(words("LOCKDEP_JAVA_JDK", ","));
         rewriter.warmUp();
+        Recording.warmUp();
         open(machine);
         if (isRecorded) {
             Recording.begin(processes, words("LOCKDEP_JAVA_SOURCES", File.pathSeparator));

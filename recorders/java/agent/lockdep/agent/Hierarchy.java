@@ -10,6 +10,7 @@ import java.lang.ref.ReferenceQueue;
 import java.lang.ref.WeakReference;
 import java.util.Set;
 import java.util.concurrent.ConcurrentHashMap;
+import java.util.concurrent.atomic.AtomicReference;
 import java.util.jar.JarFile;
 import java.util.zip.ZipEntry;
 import java.util.zip.ZipFile;
@@ -34,7 +35,7 @@ final class Hierarchy implements AutoCloseable {
     private final OfLoader known;
     /** The folder or jar of the class that asks, in which others are looked for first, since that costs less; or null. */
     private final String location;
-    private JarFile jar;
+    private Jar jar;
 
     Hierarchy(ClassLoader loader, String location) {
         this.loader = loader;
@@ -44,7 +45,7 @@ final class Hierarchy implements AutoCloseable {
 
     @Override
     public void close() throws IOException {
-        if (jar != null) jar.close();
+        if (jar != null) jar.giveBack();
     }
 
     /** A class is being loaded. */
@@ -147,9 +148,36 @@ final class Hierarchy implements AutoCloseable {
             File found = new File(place, file);
             return found.isFile() ? new FileInputStream(found) : null;
         }
-        if (jar == null) jar = new JarFile(place, false, ZipFile.OPEN_READ, JarFile.runtimeVersion());
+        if (jar == null) jar = Jar.of(place);
         ZipEntry entry = jar.getEntry(file);
         return entry == null ? null : jar.getInputStream(entry);
+    }
+
+    /** A jar that is open. The last one that was needed stays open, since the next class is often of the same jar. */
+    private static final class Jar extends JarFile {
+        private static final AtomicReference<Jar> last = new AtomicReference<>();
+
+        private final long modified;
+
+        private Jar(File file) throws IOException {
+            super(file, false, ZipFile.OPEN_READ, JarFile.runtimeVersion());
+            modified = file.lastModified();
+        }
+
+        /** A jar for one thread, until that gives it back. */
+        static Jar of(File file) throws IOException {
+            Jar found = last.getAndSet(null);
+            if (found != null && found.getName().equals(file.getPath()) && found.modified == file.lastModified()) {
+                return found;
+            }
+            if (found != null) found.close();
+            return new Jar(file);
+        }
+
+        void giveBack() throws IOException {
+            Jar other = last.getAndSet(this);
+            if (other != null) other.close();
+        }
     }
 
     /** What the file of a class says of it. */

@@ -212,7 +212,8 @@ final class MethodRewriter {
 
     /** The object on the stack was made on this line. */
     private void noteMade(AbstractInsnNode made) {
-        int ordinal = madeOnLine.merge(line, 1, Integer::sum);
+        int ordinal = madeOnLine.getOrDefault(line, 0) + 1;
+        madeOnLine.put(line, ordinal);
         int site = Site.add(source, method.name, line, ordinal);
         boolean isConstructor = made.getOpcode() == Opcodes.INVOKESPECIAL;
         LabelNode constructor = isConstructor ? new LabelNode() : null;
@@ -231,7 +232,9 @@ final class MethodRewriter {
 
     /** Once the class is written: says where in its code the constructors of noted objects are called. */
     void tellNoted() {
-        told.forEach((site, constructor) -> Site.calledAt(site, constructor.getLabel().getOffset()));
+        for (Map.Entry<Integer, LabelNode> each : told.entrySet()) {
+            Site.calledAt(each.getKey(), each.getValue().getLabel().getOffset());
+        }
         for (Noted each : noted) {
             int at = each.constructor == null ? -1 : each.constructor.getLabel().getOffset();
             OnLine.note(source, method.name, method.desc, each.line, each.ordinal, at);
