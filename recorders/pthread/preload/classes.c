@@ -97,8 +97,10 @@ void note_size(uint32_t number, uint64_t bytes) {
     uint64_t first = LOAD(&place->bytes), steps = LOAD(&place->steps), new;
     if (LIKELY(first == bytes))
         return;
-    if (!first && SWAP(&place->bytes, &first, bytes))
+    if (!first && SWAP(&place->bytes, &first, bytes)) {
+        note_lock_from(number);
         return;
+    }
     do
         new = common_part(first > bytes ? first - bytes : bytes - first, steps);
     while (new != steps && !SWAP(&place->steps, &steps, new));

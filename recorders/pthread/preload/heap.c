@@ -196,9 +196,22 @@ static inline void put_anywhere(uintptr_t address, uint64_t about) {
         put_long(address, about);
 }
 
-static inline void put_noted(void *piece, size_t size, const struct asked *asked) {
-    put_anywhere((uintptr_t)piece, (uint64_t)size << SIZE_SHIFT | place_of_piece(asked));
+/* A piece in a word, by which it is seen whether it has ended: its address, and some of what is noted of it but for locks. */
+#define MARK_BITS 16
+static inline uint64_t mark_of(uintptr_t address, uint64_t about) {
+    return (uint64_t)address << MARK_BITS | mixed(about & ~ALL_LOCKS) >> (64 - MARK_BITS);
+}
+
+static inline void put_from(void *piece, size_t size, uint32_t place) {
+    put_anywhere((uintptr_t)piece, (uint64_t)size << SIZE_SHIFT | place);
     note_own_piece((uintptr_t)piece);
+}
+
+static inline void put_noted(void *piece, size_t size, const struct asked *asked) {
+    uint32_t place = place_of_piece(asked);
+    put_from(piece, size, place);
+    if (RARELY(asked->mark))
+        __atomic_store_n(asked->mark, mark_of((uintptr_t)piece, (uint64_t)size << SIZE_SHIFT | place), __ATOMIC_RELAXED);
 }
 
 static __attribute__((noinline)) uint64_t taken_from_slot(uintptr_t address) {
@@ -228,10 +241,23 @@ static uint64_t *find_piece(uintptr_t address) {
     return slot ? &slot->about : word && LOAD(word) ? word : NULL;
 }
 
+bool has_ended(uint64_t mark) {
+    const uint64_t *about = find_piece(mark >> MARK_BITS);
+    return !about || mark_of(mark >> MARK_BITS, LOAD(about)) != mark;
+}
+
 void note_piece(void *piece, size_t size, uint64_t element, struct call call) {
-    struct asked asked = ask_for_piece(call, size, element);
-    if (is_noted_size(size))
-        put_noted(piece, size, &asked);
+    if (!is_noted_size(size))
+        return;
+    uint64_t key = key_of_call(call, size, element);
+    uint32_t place = key ? place_of_plain(key) : 0;
+    if (LIKELY(place)) {
+        put_from(piece, size, place);
+        return;
+    }
+    struct asked asked;
+    ask_for_piece(&asked, call, size, element, key);
+    put_noted(piece, size, &asked);
 }
 
 /* A piece that ends where it was told to. */
@@ -399,17 +425,33 @@ static inline void *noted(void *piece, size_t size, struct call call) {
 
 /* ---- malloc and its like. */
 
-/* All of it in one function, since programs call it more than anything else. */
+/* ... of a call that isn't plain. */
+static __attribute__((noinline)) void *malloc_by_stack(size_t size, uint64_t element, uint64_t key, struct call call) {
+    struct asked asked;
+    ask_for_piece(&asked, call, size, element, key);
+    void *piece = real_malloc(size);
+    if (LIKELY(piece))
+        put_noted(piece, size, &asked);
+    return piece;
+}
+
+/* What most calls do is in one function, since programs call it more than anything else. */
 LINED_UP EXPORT __attribute__((flatten)) void *malloc(size_t size) {
     if (!resolved())
         return early_memory(size);
     uint64_t element = asked_element(size);
     if (RARELY(!is_noted_size(size) || !arena))
         return real_malloc(size);
-    struct asked asked = ask_for_piece(HERE, size, element);
+    uint64_t key = key_of_call(HERE, size, element);
+    uint32_t place = LIKELY(key) ? place_of_plain(key) : 0;
+    if (RARELY(!place)) {
+        void *piece = malloc_by_stack(size, element, key, HERE);
+        AS_WRITTEN; /* so that this frame is there until then: the stack is followed from it */
+        return piece;
+    }
     void *piece = real_malloc(size);
     if (LIKELY(piece))
-        put_noted(piece, size, &asked);
+        put_from(piece, size, place);
     return piece;
 }
 

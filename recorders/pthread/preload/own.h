@@ -210,7 +210,11 @@ void forget_rules(void);
 extern uint32_t rules_epoch; /* changes when a library is closed */
 uint64_t stack_above(struct call call); /* the bytes of the stack from the call's frame on; 0 if that isn't known */
 uintptr_t outer_caller(struct call call, uint64_t stack_bytes); /* of the function that made the call; 0 if that isn't known at once */
-bool quick_callers(struct call call, uint64_t stack_bytes, uintptr_t *callers, uint32_t count); /* the innermost first, if they are known at once */
+#define INNERMOST 4 /* the callers that a name has, and an operator of C++ */
+struct few {
+    uintptr_t callers[INNERMOST]; /* the innermost first */
+};
+bool quick_callers(struct call call, uint64_t stack_bytes, struct few *few); /* whether they are known at once */
 bool has_returned(struct call call, struct call earlier, uintptr_t function); /* which was called there, further up on the stack */
 bool is_left(struct call call, struct call earlier); /* a jump has left that call of a function of ours */
 bool has_word(uintptr_t address, uint32_t word);
@@ -242,6 +246,7 @@ bool is_below_end(uintptr_t lock, struct call call);
 
 void heed_allocator(void); /* its calls are to be recorded as those of a lock */
 bool heeds_allocator(void);
+bool has_ended(uint64_t mark); /* the piece that was marked so */
 void note_piece(void *piece, size_t size, uint64_t element, struct call call);
 void drop_piece(uintptr_t address, size_t size);
 struct memory { /* the piece that a lock is in */
@@ -313,9 +318,13 @@ struct asked { /* a call, what it makes, where its place is looked for, and how 
     struct memo *memos;
     uint64_t salt;
     bool is_tiny; /* without room for a mutex */
+    uint64_t *mark; /* where what is given out is to be marked, or NULL */
 };
-struct asked ask_for_piece(struct call call, size_t size, uint64_t element); /* before the piece is there */
+uint64_t key_of_call(struct call call, size_t size, uint64_t element);
+uint32_t place_of_plain(uint64_t key);
+void ask_for_piece(struct asked *asked, struct call call, size_t size, uint64_t element, uint64_t key); /* before the piece is there */
 uint32_t place_of_piece(const struct asked *asked);
+void note_lock_from(uint32_t place); /* that a piece from there has one, when it is known of a place first */
 void forget_places_in_closed_modules(void);
 
 /* ---- classes.c */

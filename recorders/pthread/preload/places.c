@@ -70,6 +70,7 @@ static struct memo *memos = first_memos;
 static uint64_t memos_in_use = FIRST_MEMOS, memos_made;
 
 static bool are_many_memos(void) { return __atomic_load_n(&memos_in_use, __ATOMIC_RELAXED) > FIRST_MEMOS; }
+static inline bool are_most_memos(void) { return __atomic_load_n(&memos_in_use, __ATOMIC_RELAXED) > MORE_MEMOS; }
 
 /* One table comes after the other, so there is never a larger size than that of the table that is there. */
 static void use_memos(struct memo *full, struct memo *next, uint64_t count) {
@@ -94,6 +95,8 @@ static const uint64_t weights[RAW_FRAMES] = {
 
 /* What tells two calls with one stack apart: what they make. */
 static inline uint64_t salt_of(uint64_t element, bool is_tiny) { return element << 1 | is_tiny; }
+
+static inline bool is_tiny(size_t size) { return size < sizeof(pthread_mutex_t); }
 
 static uint64_t sum_start(uint32_t count, uint32_t place, uint64_t salt) {
     return ((uint64_t)LOAD(&rules_epoch) << 48 ^ (uint64_t)count << 32 ^ (place << 1 ^ salt)) + 1;
@@ -226,7 +229,6 @@ static inline void put_place_at(uint64_t *word, uint64_t key, uint32_t place) {
    same innermost callers. If these were met in many stacks they alone tell the call: to follow and keep ever new stacks takes several times
    what malloc does. Fewer stacks are many for a piece that has no room for a mutex: most pieces are such, and hardly any of them has a lock. */
 
-#define INNERMOST 4 /* the callers that a name has, and an operator of C++ */
 #define MOST_STACKS 256
 #define MOST_TINY_STACKS 32
 #define MET_STACKS 65536
@@ -273,19 +275,26 @@ static uint32_t place_of_array(uint32_t plain, struct stack *stack, uint64_t ele
     return place;
 }
 
-/* What tells the innermost callers of a call whose stacks vary. */
-static inline uint64_t key_of_few(const uintptr_t *callers, const struct asked *asked) {
-    uint64_t key = sum_start(INNERMOST, 0, asked->salt) * weights[INNERMOST];
+/* What tells the innermost callers of a call. */
+static inline uint64_t key_of_few(const struct few *few, uint64_t salt) {
+    uint64_t key = sum_start(INNERMOST, 0, salt) * weights[INNERMOST];
     UNROLLED
     for (uint32_t i = 0; i < INNERMOST; i++)
-        key += callers[i] * weights[i];
+        key += few->callers[i] * weights[i];
     return key;
+}
+
+static uint64_t key_of_stack(const struct stack *stack, uint64_t salt) {
+    struct few few;
+    for (uint32_t i = 0; i < INNERMOST; i++)
+        few.callers[i] = stack->callers[i];
+    return key_of_few(&few, salt);
 }
 
 /* Of a stack that wasn't met in a memo. */
 static uint32_t place_of_stack(const struct asked *asked, struct stack *stack) {
     uint32_t count = stack->count, inner_count = count < INNERMOST ? count : INNERMOST;
-    uint64_t few = inner_count == INNERMOST ? key_of_few(stack->callers, asked) : 0;
+    uint64_t few = inner_count == INNERMOST ? key_of_stack(stack, asked->salt) : 0;
     uint32_t place = few ? place_at(met_stack(few), few) : 0;
     if (place) {
         stack->count = INNERMOST;
@@ -308,11 +317,11 @@ static uint32_t place_of_stack(const struct asked *asked, struct stack *stack) {
 
 /* The place of a tiny piece whose innermost callers are known at once, and tell it; else 0. */
 static inline uint32_t quick_place(const struct asked *asked) {
-    uintptr_t callers[INNERMOST];
-    if (!quick_callers(asked->call, asked->stack_bytes, callers, INNERMOST))
+    struct few few;
+    if (!quick_callers(asked->call, asked->stack_bytes, &few))
         return 0;
-    uint64_t few = key_of_few(callers, asked);
-    return place_at(met_stack(few), few);
+    uint64_t key = key_of_few(&few, asked->salt);
+    return place_at(met_stack(key), key);
 }
 
 /* ... of a call whose stack isn't the first memo's. */
@@ -329,13 +338,127 @@ static __attribute__((noinline)) uint32_t place_of_followed(const struct asked *
     return place;
 }
 
+/* ---- Calls whose pieces have no locks. If some pieces of a call were given back and none had a lock, the call is plain: its innermost callers
+   alone tell its pieces, until a lock is found in one. A call is met by these callers, in a word: its key, and, if it is plain, the place of
+   its pieces. Else one of some pieces is marked, and seen to have ended or not when the next one is marked; the word counts both. */
+
+#define CALLS 16384
+#define IS_PLAIN (PLACE_MASK + 1)
+#define ABOUT_CALL (IS_PLAIN | PLACE_MASK)
+#define EACH_MARKED 4 /* one of so many pieces */
+#define ENDED EACH_MARKED
+#define MOST_ENDED 4
+#define HAS_LOCKS (ENDED * 16)
+
+static uint64_t calls[CALLS] LARGE;
+static uint64_t marked_pieces[CALLS] LARGE; /* of those that aren't plain */
+static struct names calls_with_locks;      /* by the words of the innermost callers */
+
+static inline bool is_call(uint64_t word, uint64_t key) { return ((word ^ key) & ~ABOUT_CALL) == 0; }
+
+static uint64_t key_of_words(const uint64_t *words) {
+    uint64_t key = 0;
+    for (uint32_t i = 0; i < INNERMOST; i++)
+        key = mixed(key) ^ words[i];
+    return mixed(key);
+}
+
+static bool has_locks(const struct stack *stack) {
+    uint64_t words[INNERMOST];
+    for (uint32_t i = 0; i < INNERMOST; i++)
+        words[i] = word_of(stack->callers[i]);
+    return name_slot(&calls_with_locks, key_of_words(words)) != NULL;
+}
+
+static __attribute__((noinline)) void make_plain(uint64_t *word, uint64_t key, const struct asked *asked) {
+    struct few few;
+    struct stack stack = {.element = 0, .count = INNERMOST};
+    if (!quick_callers(asked->call, asked->stack_bytes, &few))
+        return;
+    for (uint32_t i = 0; i < INNERMOST; i++)
+        stack.callers[i] = few.callers[i];
+    uint32_t place = has_locks(&stack) ? 0 : place_of(&stack);
+    if (place && asked->element)
+        place = place_of_array(place, &stack, asked->element);
+    __atomic_store_n(word, key | (place ? IS_PLAIN | place : HAS_LOCKS), __ATOMIC_RELAXED);
+}
+
+/* A lock was found in a piece from there. */
+void note_lock_from(uint32_t place) {
+    const struct raw_place *from = part_of(RAW_PLACES, place);
+    uint32_t *slot = LOAD(&from->count) < INNERMOST ? NULL : added_slot(&calls_with_locks, key_of_words(from->callers));
+    if (slot)
+        STORE(slot, 1);
+    for (uint32_t i = 0; i < CALLS && slot && from->count == INNERMOST; i++)
+        if ((__atomic_load_n(&calls[i], __ATOMIC_RELAXED) & ABOUT_CALL) == (IS_PLAIN | place))
+            __atomic_store_n(&calls[i], 0, __ATOMIC_RELAXED);
+}
+
+static inline uint64_t *other_word(uint64_t *word) { return calls + ((word - calls) ^ 1); }
+
+static inline uint64_t *first_word(uint64_t key) { return &calls[(key >> 40) % CALLS]; }
+
+/* What tells the calls of a piece of memory; 0 if that isn't known at once. */
+uint64_t key_of_call(struct call call, size_t size, uint64_t element) {
+    struct few few;
+    if (LIKELY(!are_most_memos()) || RARELY(!quick_callers(call, stack_above(call), &few)))
+        return 0;
+    return key_of_few(&few, salt_of(element, is_tiny(size))) & ~ABOUT_CALL;
+}
+
+/* The place of the pieces of a plain call; else 0. */
+uint32_t place_of_plain(uint64_t key) {
+    uint64_t *first = first_word(key), word = __atomic_load_n(first, __ATOMIC_RELAXED);
+    if (RARELY(!is_call(word, key)))
+        word = __atomic_load_n(other_word(first), __ATOMIC_RELAXED);
+    return LIKELY((word & ~PLACE_MASK) == (key | IS_PLAIN)) ? word & PLACE_MASK : 0;
+}
+
+/* A call that has no word gets one of its two, that of a plain one last. */
+static void begin_call(uint64_t *word, uint64_t key) {
+    uint64_t *other = other_word(word);
+    bool is_other = __atomic_load_n(word, __ATOMIC_RELAXED) & IS_PLAIN && !(__atomic_load_n(other, __ATOMIC_RELAXED) & IS_PLAIN);
+    __atomic_store_n(is_other ? other : word, key, __ATOMIC_RELAXED);
+}
+
+/* The piece that is given out now is marked. */
+static void mark_piece(struct asked *asked, uint64_t *at, uint64_t key) {
+    uint64_t *marked = &marked_pieces[at - calls], before = __atomic_load_n(marked, __ATOMIC_RELAXED);
+    uint64_t word = __atomic_load_n(at, __ATOMIC_RELAXED) & ~(uint64_t)(EACH_MARKED - 1);
+    asked->mark = marked;
+    if (before && has_ended(before))
+        word += ENDED;
+    if ((word & PLACE_MASK) == MOST_ENDED * ENDED)
+        make_plain(at, key, asked);
+    else
+        __atomic_store_n(at, word, __ATOMIC_RELAXED);
+}
+
+/* A call that isn't plain gives out one more piece. */
+static void count_piece(struct asked *asked, uint64_t key) {
+    uint64_t *at = first_word(key), word = __atomic_load_n(at, __ATOMIC_RELAXED);
+    if (!is_call(word, key))
+        word = __atomic_load_n(at = other_word(at), __ATOMIC_RELAXED);
+    if (!is_call(word, key))
+        begin_call(first_word(key), key);
+    else if ((word & (EACH_MARKED - 1)) == EACH_MARKED - 1)
+        mark_piece(asked, at, key);
+    else if (!(word & (IS_PLAIN | HAS_LOCKS)))
+        __atomic_store_n(at, word + 1, __ATOMIC_RELAXED);
+}
+
 /* What is looked for is in the processor's cache by the time that the piece is there. */
-struct asked ask_for_piece(struct call call, size_t size, uint64_t element) {
-    bool is_tiny = size < sizeof(pthread_mutex_t);
-    struct asked asked = {call, element, stack_above(call), NULL, salt_of(element, is_tiny), is_tiny};
-    asked.memos = memos_of(site_key(call, outer_caller(call, asked.stack_bytes), asked.salt), call.frame);
-    __builtin_prefetch(asked.memos);
-    return asked;
+void ask_for_piece(struct asked *asked, struct call call, size_t size, uint64_t element, uint64_t key) {
+    asked->call = call;
+    asked->element = element;
+    asked->stack_bytes = stack_above(call);
+    asked->is_tiny = is_tiny(size);
+    asked->salt = salt_of(element, asked->is_tiny);
+    asked->mark = NULL;
+    asked->memos = memos_of(site_key(call, outer_caller(call, asked->stack_bytes), asked->salt), call.frame);
+    __builtin_prefetch(asked->memos);
+    if (key)
+        count_piece(asked, key);
 }
 
 uint32_t place_of_piece(const struct asked *asked) {

@@ -386,46 +386,63 @@ uint64_t stack_above(struct call call) {
 }
 
 /* Where the return address behind another one is, by that one: a word has its 48 bits, and how far away the other one is, in words; 0 if
-   that isn't a constant. */
+   that isn't a constant. Its highest bits say that the function keeps its caller's rbp in its frame, or that it does so where rbp points to,
+   behind which the return address is: then that tells how far away it is. */
 #define OUTER 512
 #define FURTHER 4096
 #define OUTER_BITS 16
+#define BY_BP (1 << 15)
+#define KEEPS_BP (1 << 14)
+#define OUTER_WORDS (KEEPS_BP - 1)
 static uint64_t outer[OUTER];           /* of callers of ours */
 static uint64_t further[FURTHER] LARGE; /* and of their callers */
 
-static __attribute__((noinline)) uint64_t new_outer(uintptr_t caller, uint64_t key, uint64_t *word) {
-    struct rule rule = rule_of(caller);
+#define END_BEHIND_BP 16 /* the function's own rbp, and its return address */
+
+static uint64_t step_by(struct rule rule) {
+    bool is_in_frame = rule.saved == SAVED_IN_FRAME;
+    if (rule.base == BASE_BP && rule.offset == END_BEHIND_BP && is_in_frame && rule.saved_at == -END_BEHIND_BP)
+        return BY_BP;
     uint64_t words = rule.base == BASE_SP && rule.offset > 0 ? (uint64_t)rule.offset / WORD : 0;
-    *word = key << OUTER_BITS | (words >> OUTER_BITS ? 0 : words);
+    return words && words <= OUTER_WORDS && (is_in_frame || rule.saved == SAVED_NOT) ? words | (is_in_frame ? KEEPS_BP : 0) : 0;
+}
+
+static __attribute__((noinline)) uint64_t new_step(uintptr_t caller, uint64_t key, uint64_t *word) {
+    *word = key << OUTER_BITS | step_by(rule_of(caller));
     return *word;
 }
 
-/* ... in bytes, as the table has it. */
-static inline uint64_t outer_distance(uintptr_t caller, uint64_t key, uint64_t *at) {
+static inline uint64_t step_of(uintptr_t caller, uint64_t key, uint64_t *at) {
     uint64_t word = __atomic_load_n(at, __ATOMIC_RELAXED);
     if (RARELY(word >> OUTER_BITS != key))
-        word = new_outer(caller, key, at);
-    return (word & ((1 << OUTER_BITS) - 1)) * WORD;
+        word = new_step(caller, key, at);
+    return word & ((1 << OUTER_BITS) - 1);
 }
 
 /* It is only a hint, so nothing tells that a library was closed. */
 uintptr_t outer_caller(struct call call, uint64_t stack_bytes) {
-    uint64_t behind = outer_distance(call.caller, call.caller, &outer[(call.caller ^ call.caller >> 9) % OUTER]);
+    uint64_t step = step_of(call.caller, call.caller, &outer[(call.caller ^ call.caller >> 9) % OUTER]);
+    uint64_t behind = (step & OUTER_WORDS) * WORD;
     return LIKELY(behind && behind + WORD < stack_bytes) ? word_at(call.frame + behind + WORD) : 0;
 }
 
 /* The callers themselves count here, so the key is another one if a library was closed. */
-bool quick_callers(struct call call, uint64_t stack_bytes, uintptr_t *callers, uint32_t count) {
+bool quick_callers(struct call call, uint64_t stack_bytes, struct few *few) {
     uint64_t epoch = (uint64_t)LOAD(&rules_epoch) << 32, at = WORD; /* from the call's frame on */
-    callers[0] = call.caller;
-    for (uint32_t i = 1; i < count; i++) {
-        uintptr_t inner = callers[i - 1];
-        uint64_t distance = outer_distance(inner, (inner ^ epoch) & UINT64_MAX >> OUTER_BITS, &further[(inner ^ inner >> 12) % FURTHER]);
-        at += distance;
-        if (RARELY(!distance || at >= stack_bytes))
+    uintptr_t bp = word_at(call.frame), inner = call.caller;
+    UNROLLED
+    for (uint32_t i = 0; i < INNERMOST - 1; i++) {
+        few->callers[i] = inner;
+        uint64_t step = step_of(inner, (inner ^ epoch) & UINT64_MAX >> OUTER_BITS, &further[(inner ^ inner >> 12) % FURTHER]);
+        uint64_t before = at;
+        at = RARELY(step & BY_BP) ? bp + WORD - call.frame : at + (step & OUTER_WORDS) * WORD;
+        if (RARELY(at <= before || at >= stack_bytes))
             return false;
-        callers[i] = word_at(call.frame + at);
+        if (RARELY(step & (BY_BP | KEEPS_BP)))
+            bp = step & BY_BP ? word_at(bp) : 0;
+        inner = word_at(call.frame + at);
     }
+    few->callers[INNERMOST - 1] = inner;
     return true;
 }
 
@@ -595,8 +612,8 @@ uintptr_t outer_caller(struct call call, uint64_t stack_bytes) {
     return 0;
 }
 
-bool quick_callers(struct call call, uint64_t stack_bytes, uintptr_t *callers, uint32_t count) {
-    (void)call, (void)stack_bytes, (void)callers, (void)count;
+bool quick_callers(struct call call, uint64_t stack_bytes, struct few *few) {
+    (void)call, (void)stack_bytes, (void)few;
     return false;
 }
 
