@@ -257,6 +257,7 @@ public final class Recording {
     }
 
     /** The number of a place, which is written if the file doesn't have it. */
+    @Apart
     int numberOfPlace(String place, StringBuilder text) {
         Integer number = places.get(place);
         if (number == null) {
@@ -270,14 +271,17 @@ public final class Recording {
     /** Writes the lock of a code, and its class, if the file doesn't have them. */
     private void declare(int code, StringBuilder text) {
         Key key = Key.of(code);
-        if (key.isTold) return;
+        if (!key.isTold) declare(key, text);
+    }
+
+    @Apart
+    private void declare(Key key, StringBuilder text) {
         key.isTold = true;
         Made made = key.made;
         if (!made.isTold) {
             made.isTold = true;
             text.append("C ").append(made.number).append('\t').append(made.name).append('\t').append(made.place)
-                    .append('\t')
-                    .append(made.kind).append('\n');
+                    .append('\t').append(made.kind).append('\n');
         }
         text.append("K ").append(key.number).append(' ').append(made.number).append(' ').append(key.ordinal)
                 .append('\n');

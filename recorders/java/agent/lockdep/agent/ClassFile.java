@@ -71,6 +71,7 @@ final class ClassFile {
     final String[] interfaces;
     final Method[] methods;
     final boolean hasSerialVersion;
+    private final int self;
     /** The first line that has code; 0 if the file has no lines. */
     int firstLine;
     String sourceFile;
@@ -83,7 +84,8 @@ final class ClassFile {
         version = number(6);
         constants = new int[number(8)];
         int at = findConstants();
-        name = nameOfClass(number(at + 2));
+        self = number(at + 2);
+        name = nameOfClass(self);
         superName = nameOfClass(number(at + 4));
         interfaces = new String[number(at + 6)];
         for (int each = 0; each < interfaces.length; each++) interfaces[each] = nameOfClass(number(at + 8 + 2 * each));
@@ -248,6 +250,10 @@ final class ClassFile {
     /** The name of the class that a field or method belongs to. */
     String owner(int constant) {
         return nameOfClass(part(constant, 1));
+    }
+
+    boolean isOwnConstructor(int method) {
+        return part(method, 1) == self && isText(part(part(method, 3), 1), "<init>");
     }
 
     String nameOfMember(int constant) {

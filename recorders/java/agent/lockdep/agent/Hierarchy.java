@@ -84,14 +84,14 @@ final class Hierarchy implements AutoCloseable {
     }
 
     /**
-     * Whether the objects of a class of the program are locked by it or by what is above it, or are locks. It may be said
-     * of one that they aren't.
+     * Whether the objects of a class of the program are locked by it or by what is above it, or are locks. It is said that
+     * they aren't if one of these classes wasn't loaded and isn't in the folder or jar of the class that asks.
      */
     boolean isOfItself(String name) {
         String above = name;
         for (int most = MOST_ABOVE; most > 0 && above != null && !above.startsWith("java/"); most--) {
             if (above.endsWith("Exception") || above.endsWith("Error") || known.missing.contains(above)) return false;
-            Facts facts = facts(above);
+            Facts facts = facts(above, false);
             if (facts == null) known.missing.add(above);
             if (facts == null || facts.isOfItself) return facts != null;
             above = facts.superName;
@@ -124,22 +124,30 @@ final class Hierarchy implements AutoCloseable {
     }
 
     private Facts facts(String name) {
+        return facts(name, true);
+    }
+
+    private Facts facts(String name, boolean isFarLookedFor) {
         Facts found = known.classes.get(name);
         if (found != null) return found;
-        ClassFile type = read(name + ".class");
+        ClassFile type = read(name + ".class", isFarLookedFor);
         if (type == null) return null;
         found = new Facts(type, new Locking(type));
         known.classes.put(name, found);
         return found;
     }
 
-    private ClassFile read(String file) {
+    private ClassFile read(String file, boolean isFarLookedFor) {
         try (InputStream near = location == null ? null : openNear(file); InputStream bytes = near != null ? near
-                : loader == null ? ClassLoader.getSystemResourceAsStream(file) : loader.getResourceAsStream(file)) {
+                : isFarLookedFor ? openFar(file) : null) {
             return bytes == null ? null : new ClassFile(bytes.readAllBytes());
         } catch (IOException | RuntimeException | LinkageError unreadable) {
             return null;
         }
+    }
+
+    private InputStream openFar(String file) {
+        return loader == null ? ClassLoader.getSystemResourceAsStream(file) : loader.getResourceAsStream(file);
     }
 
     private InputStream openNear(String file) throws IOException {

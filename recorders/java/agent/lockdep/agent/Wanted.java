@@ -62,7 +62,7 @@ final class Wanted {
                 return LOCKS.has(type, name) || hasBuffers && BUFFER.has(type, name);
             case ClassFile.METHOD:
             case ClassFile.METHOD_OF_INTERFACE:
-                return Calls.mayMatter(type, constant);
+                return Calls.mayMatter(type, constant) || tells && locking.isOfItself() && type.isOwnConstructor(constant);
             case ClassFile.FIELD: // what is made may be kept there
                 return locking.locksFields() && locking.isLocked(type.owner(constant), type.nameOfMember(constant));
             default:
@@ -89,7 +89,7 @@ final class Wanted {
 
     /**
      * Whether a constructor that is called in a method to be rewritten is told where. (In others it isn't, since to take
-     * these apart costs more.) One that the constructor of a class above it calls has the place where that one is called.
+     * these apart costs more, unless it is one of the class itself.) One that the constructor of a class above it calls has the place where that one is called.
      */
     boolean isTold(ClassFile.Method method, String made) {
         return tells && method.end - method.start < LONGEST && hierarchy.isOfItself(made)
