@@ -389,7 +389,9 @@ void note_lock_from(uint32_t place) {
     uint32_t *slot = LOAD(&from->count) < INNERMOST ? NULL : added_slot(&calls_with_locks, key_of_words(from->callers));
     if (slot)
         STORE(slot, 1);
-    for (uint32_t i = 0; i < CALLS && slot && from->count == INNERMOST; i++)
+    if (!are_most_memos() || from->count != INNERMOST)
+        return;
+    for (uint32_t i = 0; i < CALLS; i++)
         if ((__atomic_load_n(&calls[i], __ATOMIC_RELAXED) & ABOUT_CALL) == (IS_PLAIN | place))
             __atomic_store_n(&calls[i], 0, __ATOMIC_RELAXED);
 }
