@@ -7,7 +7,10 @@ import java.util.concurrent.ConcurrentHashMap;
 
 /** The file that a class was compiled from. Its location is looked up when it is first needed. */
 public final class Source {
-    private static final ConcurrentHashMap<String, Source> all = new ConcurrentHashMap<>();
+    /** So many classes have room before the table grows. */
+    private static final int FIRST_ROOM = 1 << 10;
+
+    private static final ConcurrentHashMap<String, Source> all = new ConcurrentHashMap<>(FIRST_ROOM);
     /** Where sources are below a folder, and how far above a class file's folder or a jar they are looked for. */
     private static final String[] BELOW = {"", "src/main/java", "src/test/java", "src", "java", "test",
             "app/src/main/java",

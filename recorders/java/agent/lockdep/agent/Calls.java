@@ -85,6 +85,7 @@ final class Calls {
     /** The type that the call of Hooks has for the call's object; null if the call stays. */
     static String receiver(MethodInsnNode call, Hierarchy hierarchy) {
         if (call.getOpcode() != Opcodes.INVOKEVIRTUAL && call.getOpcode() != Opcodes.INVOKEINTERFACE) return null;
+        if (!NAMES.has(call.name)) return null;
         String signature = call.name + call.desc;
         if (WAITS.contains(signature)) return "java/lang/Object";
         // (as an object of any class, so that the JVM needn't load that class to see that it is a thread)

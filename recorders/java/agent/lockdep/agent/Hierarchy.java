@@ -203,17 +203,22 @@ final class Hierarchy implements AutoCloseable {
 
     /** What is known of the classes that a loader finds, which doesn't keep the loader alive. */
     private static final class OfLoader extends WeakReference<ClassLoader> {
+        /** So many classes of the program's own loader have room before the table grows, and of another one. */
+        private static final int FIRST_ROOM = 1 << 10;
+        private static final int LITTLE_ROOM = 8;
         private static final ConcurrentHashMap<OfLoader, OfLoader> all = new ConcurrentHashMap<>();
         private static final ReferenceQueue<ClassLoader> gone = new ReferenceQueue<>();
         private static final OfLoader BOOT = new OfLoader(null);
 
-        final ConcurrentHashMap<String, Facts> classes = new ConcurrentHashMap<>();
+        final ConcurrentHashMap<String, Facts> classes;
         final Set<String> missing = ConcurrentHashMap.newKeySet();
         private final int hash;
 
         private OfLoader(ClassLoader loader) {
             super(loader, gone);
             hash = System.identityHashCode(loader);
+            boolean isOwn = loader == ClassLoader.getSystemClassLoader();
+            classes = new ConcurrentHashMap<>(isOwn ? FIRST_ROOM : LITTLE_ROOM);
         }
 
         static OfLoader of(ClassLoader loader) {

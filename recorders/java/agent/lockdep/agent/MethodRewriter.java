@@ -34,6 +34,9 @@ import org.objectweb.asm.tree.VarInsnNode;
  * synchronized method gets its own frame.
  */
 final class MethodRewriter {
+    /** No more words than this are added to what is on the stack, at any place: an object and a number, and room for more. */
+    private static final int MOST_PUSHED = 4;
+
     private final ClassFile type;
     private final ClassFile.Method read;
     private final MethodNode method;
@@ -82,6 +85,7 @@ final class MethodRewriter {
             rewrite(each);
         }
         if (isSynchronized) wrap();
+        if (isChanged) method.maxStack = Math.max(method.maxStack, 1) + MOST_PUSHED;
         return isChanged;
     }
 

@@ -57,8 +57,8 @@ final class Rewriter implements ClassFileTransformer {
             ProtectionDomain domain, byte[] file) {
         if (name == null || file == null) return null;
         boolean isOfJdk = isOfJdk(module, name);
-        if (begins(name, NEVER) && !begins(name, ALWAYS)) return null;
         if (isOfJdk && !begins(name, jdk)) return null;
+        if (begins(name, NEVER) && !begins(name, ALWAYS)) return null;
         try {
             return rewrite(loader, file, domain, isOfJdk);
         } catch (Throwable error) {
@@ -104,7 +104,7 @@ final class Rewriter implements ClassFileTransformer {
     private static byte[] rewrite(ClassFile type, Source source, Wanted wanted) {
         ClassReader reader = new ClassReader(type.version <= NEWEST ? type.bytes
                 : withVersion(type.bytes.clone(), NEWEST));
-        ClassWriter writer = new ClassWriter(reader, ClassWriter.COMPUTE_MAXS);
+        ClassWriter writer = new ClassWriter(reader, 0);
         ClassRewriter rewriter = new ClassRewriter(writer, type, source, wanted);
         reader.accept(rewriter, 0);
         if (rewriter.changed.isEmpty()) return null;

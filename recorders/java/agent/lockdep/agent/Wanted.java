@@ -89,10 +89,9 @@ final class Wanted {
 
     /**
      * Whether a constructor that is called in a method to be rewritten is told where. (In others it isn't, since to take
-     * these apart costs more, unless it is one of the class itself.) One that the constructor of a class above it calls has the place where that one is called.
+     * these apart costs more, unless it is one of the class itself.)
      */
     boolean isTold(ClassFile.Method method, String made) {
-        return tells && method.end - method.start < LONGEST && hierarchy.isOfItself(made)
-                && !(method.isConstructor && hierarchy.isBelow(made, Set.of(type.name), Hierarchy.MOST_ABOVE));
+        return tells && method.end - method.start < LONGEST && hierarchy.isOfItself(made);
     }
 }

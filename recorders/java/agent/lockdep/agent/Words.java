@@ -1,6 +1,7 @@
 package lockdep.agent;
 
 import java.util.Collection;
+import java.util.HashSet;
 import java.util.Set;
 
 /** Some words, among which one of a class file is looked for. Most are told from all of these by a few letters. */
@@ -11,7 +12,7 @@ final class Words {
     private final boolean[] keys = new boolean[KEYS];
 
     Words(Collection<String> all) {
-        this.all = Set.copyOf(all);
+        this.all = new HashSet<>(all);
         for (String word : all) keys[key(word.length(), word.charAt(0), word.charAt(word.length() - 1))] = true;
     }
 
