@@ -13,7 +13,20 @@ public class Nested {
     synchronized void down() {
     }
 
+    /** Its monitor is taken by the class above it alone. */
+    static class Below extends Nested {
+        Below(Below kid) {
+            super(0);
+            super.kid = kid;
+        }
+
+        Below() {
+            this(new Below(null));
+        }
+    }
+
     public static void main(String[] words) {
+        new Below().up();
         new Nested(1).up();
     }
 }

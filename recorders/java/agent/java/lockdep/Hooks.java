@@ -125,8 +125,7 @@ public final class Hooks {
 
     /** A constructor is called next, at a place. */
     public static void makes(int site) {
-        Task task = Task.ofThisThread();
-        if (task != null) task.making = site;
+        Task.ofThisThreadOrNew().making = site;
     }
 
     /** The constructor begins for an object whose own class takes its monitor, or that is a lock. */

@@ -69,8 +69,7 @@ final class Task {
 
     /** The running task, which is busy from here on; null if nothing is to be recorded now. */
     static Task begin() {
-        Task task = here.get();
-        if (task == null) task = add();
+        Task task = ofThisThreadOrNew();
         return task.beginAgain() ? task : null;
     }
 
@@ -96,6 +95,11 @@ final class Task {
     String threadName() {
         Thread of = thread.get();
         return of == null ? "" : of.getName().replace('\n', '?').replace('\r', '?');
+    }
+
+    static Task ofThisThreadOrNew() {
+        Task task = here.get();
+        return task != null ? task : add();
     }
 
     /** The task of this thread, if it has one. */

@@ -62,7 +62,8 @@ final class Wanted {
                 return LOCKS.has(type, name) || hasBuffers && BUFFER.has(type, name);
             case ClassFile.METHOD:
             case ClassFile.METHOD_OF_INTERFACE:
-                return Calls.mayMatter(type, constant) || tells && locking.isOfItself() && type.isOwnConstructor(constant);
+                return Calls.mayMatter(type, constant)
+                        || tells && type.isOwnConstructor(constant) && hierarchy.isOfItself(type.name);
             case ClassFile.FIELD: // what is made may be kept there
                 return locking.locksFields() && locking.isLocked(type.owner(constant), type.nameOfMember(constant));
             default:
