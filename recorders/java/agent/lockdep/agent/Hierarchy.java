@@ -51,6 +51,7 @@ final class Hierarchy implements AutoCloseable {
     /** A class is being loaded. */
     void add(ClassFile type, Locking locking) {
         known.classes.put(type.name, new Facts(type, locking));
+        known.missing.remove(type.name);
     }
 
     /** Whether a class is a Lock, or one below it. */
