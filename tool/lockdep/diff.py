@@ -75,6 +75,11 @@ def side_of_json(number: int, said: dict) -> Side:
     return side_of_finding(finding_of(number, said), said.get("verdict", ""), places)
 
 
+def is_note(number: int, said: dict) -> bool:
+    """Whether a finding of a file is a note, as those of a folder are that have a type or class nested in itself."""
+    return finding_of(number, said).is_note and "happened" not in said
+
+
 def side_of_breach(said: dict) -> Side:
     """A breach of a file, by the same pattern as that of a folder."""
     classes = [type_of_class(class_of_lock(name_in(key))) for key in said["keys"]]
@@ -87,7 +92,7 @@ def sides_of_json(name: str) -> list[Side]:
     """The findings of a file, with the places that it has."""
     try:
         said = json.loads(text_named(name, WHAT))
-        findings = [side_of_json(number, finding) for number, finding in enumerate(said["findings"], 1)]
+        findings = [side_of_json(number, finding) for number, finding in enumerate(said["findings"], 1) if not is_note(number, finding)]
         return findings + [side_of_breach(breach) for breach in said.get("breaches", [])]
     except (ValueError, KeyError, TypeError, AttributeError) as error:
         raise Refusal("%s, %s, can't be read: %s" % (visible(name), WHAT, visible(repr(error))))

@@ -114,7 +114,7 @@ class Report:
 
     @property
     def new(self) -> list:
-        """The new findings, without the notes of types that are nested in themselves."""
+        """The new findings, without the notes of types and classes that are nested in themselves."""
         return [finding for finding in self.sorted.new if not finding.is_note] if self.sorted else []
 
     @property
@@ -281,8 +281,11 @@ class Report:
             self.say_end()
 
     def note_words(self) -> str:
-        return "%s nested in itself, which is a note: `lockdep confirm %s` shows it" % (
-            counted(len(self.notes), "type is", "types are"), self.recording.folder)
+        from .findings import Kind
+        of_classes = sum(finding.kind is Kind.NESTED_CLASS for finding in self.notes)
+        numbers = (len(self.notes) - of_classes, "type", "types"), (of_classes, "class", "classes")
+        words = "%s %s" % (" and ".join(counted(*number) for number in numbers if number[0]), "is" if len(self.notes) == 1 else "are")
+        return "%s nested in itself, which is a note: `lockdep confirm %s` shows it" % (words, self.recording.folder)
 
     def say_end(self) -> None:
         if self.recording.status:

@@ -91,6 +91,16 @@ static void open_arena(const char *path) {
         refused_count++;
 }
 
+/* Where its locks are made: there functions that only do that for their caller are passed over, and not where a lock is taken. */
+static void mark_making(struct arena *a) {
+    uint32_t places = count_of(a, RAW_PLACES);
+    for (uint32_t n = 1; n <= count_of(a, RAW_CLASSES); n++) {
+        const struct raw_class *class = part_of(a, RAW_CLASSES, n);
+        if ((class->kind == CLASS_INIT || class->kind == CLASS_HEAP) && class->place <= places)
+            a->places[class->place].is_of_making = true;
+    }
+}
+
 /* A program is a process, and so is each of its forked children that locked something. Others have no number. */
 static void number_processes(struct arena *a) {
     a->processes = checked(calloc(count_of(a, RAW_PROCESSES) + 2, sizeof *a->processes));
@@ -134,6 +144,7 @@ void read_arenas(const char *folder) {
         read_modules(a);
         a->places = checked(calloc(count_of(a, RAW_PLACES) + 1, sizeof *a->places));
         a->keys = checked(calloc(count_of(a, RAW_CLASSES) + 1, sizeof *a->keys));
+        mark_making(a);
         number_processes(a);
     }
 }
@@ -180,15 +191,31 @@ static uint32_t first_of_program(const struct arena *a, const struct raw_place *
 
 static bool is_start(uint64_t word) { return is_outermost(word) || (word != UINT64_MAX && !is_of_program(word)); }
 
+static bool is_passed(const struct place *place, uint64_t word) {
+    enum passing passing = passing_of(word);
+    return passing == PASSED_ALWAYS || (passing == PASSED_WHERE_MADE && place->is_of_making);
+}
+
+/* Two locks that such a function makes for one caller, each by a call of its own, aren't made in one place. */
+static void note_maker(struct place *place, uint64_t word) {
+    char text[LONGEST_NAME];
+    if (passing_of(word) != PASSED_WHERE_MADE)
+        return;
+    snprintf(text, sizeof text, "%x %s+%lx", place->maker, modules[raw_word_module(word)].base, (unsigned long)raw_word_offset(word));
+    place->maker = hash_of(text);
+}
+
 /* The callers without the frames that start a thread or a program, and without the innermost wrappers. */
 static void read_place(struct arena *a, struct place *to, const struct raw_place *from) {
     uint32_t last = from->count < RAW_FRAMES ? (uint32_t)from->count : RAW_FRAMES, first = 0;
     while (last > 1 && is_start(told_word(a, from->callers[last - 1])))
         last--;
-    while (first + 1 < last && is_wrapper(told_word(a, from->callers[first])))
+    while (first + 1 < last && is_passed(to, told_word(a, from->callers[first])))
         first++;
-    if (first + 1 == last && is_wrapper(told_word(a, from->callers[first])))
+    if (first + 1 == last && is_passed(to, told_word(a, from->callers[first])))
         first = first_of_program(a, from, last);
+    for (uint32_t i = 0; i < first; i++)
+        note_maker(to, told_word(a, from->callers[i]));
     for (uint32_t i = first; i < last; i++)
         to->words[to->count++] = told_word(a, from->callers[i]);
 }

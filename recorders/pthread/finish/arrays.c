@@ -37,13 +37,15 @@ static size_t offset_count, taking_count, site_count, part_count;
 
 /* A number that is made of so many callers. */
 static uint64_t number_of(const struct place *place, uint32_t most) {
-    uint64_t number = 1;
+    uint64_t number = 1 + (uint64_t)place->maker;
     for (uint32_t i = 0; i < place->count && i < most; i++)
         number = (number ^ place->words[i]) * UINT64_C(0x9e3779b97f4a7c15) + (number >> 29);
     return number;
 }
 
-static uint64_t site_of(const struct place *place) { return number_of(place, (uint32_t)frames); }
+int frames_of_arrays;
+
+static uint64_t site_of(const struct place *place) { return number_of(place, (uint32_t)frames_of_arrays); }
 
 /* ---- All offsets. */
 

@@ -65,7 +65,8 @@ const struct symbol *symbol_at(uint32_t module, uint64_t offset, enum symbol_kin
 
 struct place { /* the callers that name it, from the innermost one, with modules of all recordings */
     uint32_t count;
-    bool is_read;
+    uint32_t maker; /* made of the calls in functions that only make a lock for their caller, which were passed over; 0 if none was */
+    bool is_read, is_of_making; /* of what a lock is known by: where it was initialised, or its memory allocated */
     uint64_t words[RAW_FRAMES];
 };
 
@@ -102,6 +103,8 @@ const struct raw_record *state_record_of(const struct arena *a, const struct raw
 uint32_t class_of(const struct arena *a, uint32_t object);
 
 /* ---- arrays.c */
+
+extern int frames_of_arrays; /* by so many callers a place is told in which arrays are allocated: mostly as many as name a class */
 
 void find_arrays(void);
 bool in_element(struct arena *a, const struct raw_class *class, uint64_t *told);
@@ -153,7 +156,8 @@ extern size_t key_count;
 extern int frames;
 
 void read_wrappers(const char *beside);
-bool is_wrapper(uint64_t word);
+enum passing { PASSED_NEVER, PASSED_WHERE_MADE, PASSED_ALWAYS };
+enum passing passing_of(uint64_t word);
 bool is_of_program(uint64_t word);
 bool is_outermost(uint64_t word);
 bool is_in_fork(uint64_t word);

@@ -119,7 +119,8 @@ void tell_symbol(char *text, size_t room, const char *symbol) {
 
 /* ---- Wrappers: functions that are passed over when a place is named. */
 
-/* Patterns of functions. One that begins with `in ` is of modules, one with `not ` of functions that are none, whatever else fits. */
+/* Patterns of functions. One that begins with `in ` is of modules, one with `not ` of functions that are none, whatever else fits, and
+   one with `makes ` of functions that are passed over only where a lock is made. */
 static char **wrappers;
 static size_t wrapper_count;
 
@@ -153,45 +154,73 @@ static bool is_library(uint64_t word) {
     return false;
 }
 
-static bool fits(const char *pattern, const char *name, const struct symbol *s) {
-    return fnmatch(pattern, name, 0) == 0 || fnmatch(pattern, s->name, 0) == 0;
+/* A function by its symbol and by another name, if it has one: that of C++ in plain words, and that of C without what a compiler adds
+   for a copy or a part of the function, as in `open.constprop.0`. */
+struct function {
+    const char *symbol;
+    char other[LONGEST_NAME];
+};
+
+static void read_function(struct function *f, const struct symbol *s) {
+    f->symbol = s->name;
+    tell_symbol(f->other, sizeof f->other, s->name);
+    if (strcmp(f->other, s->name) == 0 && s->name[0] != '.')
+        f->other[strcspn(f->other, ".")] = 0;
+    if (strcmp(f->other, s->name) == 0)
+        f->other[0] = 0;
 }
 
-static bool fits_list(uint64_t word) {
+static bool fits(const char *pattern, const struct function *f) {
+    return fnmatch(pattern, f->symbol, 0) == 0 || (f->other[0] && fnmatch(pattern, f->other, 0) == 0);
+}
+
+static const char *behind(const char *line, const char *word) {
+    size_t length = strlen(word);
+    return strncmp(line, word, length) == 0 ? line + length : NULL;
+}
+
+#define MOST_OF_MAKER 1500 /* bytes of code: a longer function does more than make a lock for its caller */
+
+static enum passing look_up(uint64_t word) {
     if (is_library(word))
-        return true;
+        return PASSED_ALWAYS;
     const struct symbol *s = symbol_at(raw_word_module(word), raw_word_offset(word) - 1, SYMBOL_CODE);
     if (!s)
-        return false;
-    char name[LONGEST_NAME];
-    tell_symbol(name, sizeof name, s->name);
-    bool is_one = false;
+        return PASSED_NEVER;
+    struct function f;
+    read_function(&f, s);
+    enum passing passing = PASSED_NEVER;
     for (size_t i = 0; i < wrapper_count; i++) {
-        if (strncmp(wrappers[i], "not ", 4) != 0)
-            is_one = is_one || fits(wrappers[i], name, s);
-        else if (fits(wrappers[i] + 4, name, s))
-            return false;
+        const char *kept = behind(wrappers[i], "not "), *maker = behind(wrappers[i], "makes ");
+        if (kept && fits(kept, &f))
+            return PASSED_NEVER;
+        if (kept || passing == PASSED_ALWAYS || (maker && s->size > MOST_OF_MAKER))
+            continue;
+        if (fits(maker ? maker : wrappers[i], &f))
+            passing = maker ? PASSED_WHERE_MADE : PASSED_ALWAYS;
     }
-    return is_one;
+    return passing;
 }
 
 /* What was found of an address is kept. */
 #define REMEMBERED 65536
 static struct {
     uint64_t word;
-    bool is_known, fits;
+    bool is_known;
+    enum passing passing;
 } remembered[REMEMBERED];
 
-bool is_wrapper(uint64_t word) {
+/* Where an address's function is passed over. */
+enum passing passing_of(uint64_t word) {
     if (word == UINT64_MAX)
-        return false;
+        return PASSED_NEVER;
     size_t slot = (word ^ word >> 16 ^ word >> 48) % REMEMBERED;
     if (!remembered[slot].is_known || remembered[slot].word != word) {
         remembered[slot].word = word;
-        remembered[slot].fits = fits_list(word);
+        remembered[slot].passing = look_up(word);
         remembered[slot].is_known = true;
     }
-    return remembered[slot].fits;
+    return remembered[slot].passing;
 }
 
 /* Whether an address is known and isn't in a library of wrappers. */
@@ -254,6 +283,14 @@ void tell_place(char *text, size_t room, const struct place *place, bool plainly
     }
 }
 
+/* A place where a lock is made. What passed it on isn't in a name, and still tells two places apart. */
+static void tell_made(char *text, size_t room, const struct place *place, bool plainly) {
+    tell_place(text, room, place, plainly);
+    size_t have = strlen(text);
+    if (plainly && place->maker)
+        snprintf(text + have, room - have, " %08x", place->maker);
+}
+
 /* What follows the place: where in its memory or frame the lock is. Of an array, where in an element. */
 static void tell_offset(char *text, size_t room, struct arena *a, const struct raw_class *class) {
     text[0] = 0;
@@ -303,7 +340,7 @@ void tell_class(char *text, size_t room, struct arena *a, const struct raw_class
     if (is_by_word(class))
         tell_address(text + have, room - have, told_word(a, class->word), false, symbol_kinds[class->kind], plainly);
     else
-        tell_place(text + have, room - have, place_numbered(a, class->place), plainly);
+        tell_made(text + have, room - have, place_numbered(a, class->place), plainly);
     tell_offset(offset, sizeof offset, a, class);
     have = strlen(text);
     snprintf(text + have, room - have, "%s", offset);
