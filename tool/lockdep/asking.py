@@ -4,7 +4,7 @@ from __future__ import annotations
 import os
 
 from .checker import REFUSED, Answer, ask
-from .folder import OBJECTS, PROVOKED, SIGNALS, WEAK
+from .folder import LIVES, OBJECTS, PROVOKED, SIGNALS, WEAK
 from .kernels import is_of_kernel, traces_of
 from .words import text_of
 
@@ -75,6 +75,11 @@ class Asked:
             from .weak import weaken
             with room_for(self.folder) as room:
                 weaken(findings, self.folder, self.traces, room)
+        if not self.reason and os.path.exists(os.path.join(self.folder, LIVES)):
+            from .room import room_for
+            from .turns import find_turns
+            with room_for(self.folder) as room:
+                find_turns(findings, self.folder, self.traces, room)
         for finding in self.signals.findings if self.signals else ():
             finding.place = finding.number = len(findings) + 1
             findings.append(finding)

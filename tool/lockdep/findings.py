@@ -24,7 +24,8 @@ class Kind(Enum):
     LOCKS = "locks"
     PERHAPS = "perhaps"
     UNKNOWN = "unknown"
-    ENDED = "ended-thread"  # between locks, and only where the joined thread had ended: this and the next three are no kinds of the checker's
+    BEFORE = "joined-before"  # between locks, and only where another thread of the cycle had been joined: this and the next four are no kinds of the checker's
+    ENDED = "ended-thread"  # between locks, and only where the joined thread had ended
     ANY = "timed-ended-thread-or-new-lock"  # between locks, and only so, by waits that give up, or while a lock was new
     TIMED = "timed"  # between locks, and only by waits that give up
     EITHER = "timed-or-new-lock"  # between locks, and only so or while a lock was new
@@ -32,6 +33,7 @@ class Kind(Enum):
     NEW = "new-lock"  # between locks, and only while a lock was new; nor is this one
     TYPES = "types"
     NESTED = "nested"
+    NEVER = "never"  # as BEFORE, also between classes and types; nor is this one
 
 
 @dataclass(frozen=True)
@@ -143,8 +145,8 @@ class Finding:
 
     @property
     def is_note(self) -> bool:
-        """A type nested in itself is a note, and no finding."""
-        return self.kind is Kind.NESTED
+        """A type nested in itself is a note, and no finding, and so is a cycle that can't be."""
+        return self.kind in (Kind.NESTED, Kind.NEVER)
 
     @property
     def is_confirmed(self) -> bool:

@@ -281,8 +281,12 @@ class Report:
             self.say_end()
 
     def note_words(self) -> str:
-        return "%s nested in itself, which is a note: `lockdep confirm %s` shows it" % (
-            counted(len(self.notes), "type is", "types are"), self.recording.folder)
+        from .findings import Kind
+        in_turn = sum(note.kind is Kind.NEVER for note in self.notes)
+        nested = len(self.notes) - in_turn
+        kinds = ["%s nested in itself" % counted(nested, "type is", "types are")] if nested else []
+        kinds += ["%s of threads that were joined one before another" % counted(in_turn, "cycle is", "cycles are")] if in_turn else []
+        return "%s, which is a note: `lockdep confirm %s` shows it" % (" and ".join(kinds), self.recording.folder)
 
     def say_end(self) -> None:
         if self.recording.status:
