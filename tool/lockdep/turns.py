@@ -19,10 +19,9 @@ from .words import class_of_lock, name_in, stands_for_several, text_of
 
 TYPE_CHECKING = False
 if TYPE_CHECKING:
-    from typing import Callable, FrozenSet, Iterator, List, Optional, Tuple
+    from typing import FrozenSet, Iterator, Tuple
 
     Part = FrozenSet[Tuple[str, int]]  # acquisitions: the file of a trace, and a record of it or EVERY
-    OrdersOf = Callable[[Finding], Optional[List[Order]]]
 
 MOST_ASKED = 24  # times that the checker is asked about one recording; if that isn't enough, nothing is said
 EVERY = 0  # all records of a trace
