@@ -23,6 +23,7 @@ class Lives:
     def __init__(self, folder: str) -> None:
         self.lines: list[list[str]] = []
         self.later: dict[str, set[str]] = {}
+        self.joined: dict[str, set[tuple[str, str]]] = {}
         try:
             with open(os.path.join(folder, LIVES), encoding="utf-8", errors="replace") as file:
                 self.lines = [words for words in map(str.split, file) if len(words) == 3 and words[1] in VERBS]
@@ -45,6 +46,24 @@ class Lives:
             elif verb == "starts" and who in knowing:
                 knowing.add(other)
                 later.add(other)
+        return later
+
+    def joins_after(self, ended: str) -> set[tuple[str, str]]:
+        """Who joined which thread knowing that this one had been joined."""
+        if ended not in self.joined:
+            is_much = (len(self.joined) + 1) * len(self.lines) > MOST_STEPS
+            self.joined[ended] = set() if is_much else self.look_at_joins_after(ended)
+        return self.joined[ended]
+
+    def look_at_joins_after(self, ended: str) -> set[tuple[str, str]]:
+        knowing: set[str] = set()
+        later: set[tuple[str, str]] = set()
+        for who, verb, other in self.lines:
+            if who in knowing:
+                knowing.update((other,) if verb == "starts" else ())
+                later.update(((who, other),) if verb == "joins" else ())
+            elif verb == "joins" and (other == ended or other in knowing):
+                knowing.add(who)
         return later
 
     def in_turn(self, one: str, other: str) -> tuple[str, str] | None:

@@ -4,7 +4,7 @@ from __future__ import annotations
 import os
 
 from .checker import REFUSED, Answer, ask
-from .folder import OBJECTS, PROVOKED, SIGNALS, WEAK
+from .folder import LIVES, OBJECTS, PROVOKED, SIGNALS, WEAK
 from .kernels import is_of_kernel, traces_of
 from .words import text_of
 
@@ -70,11 +70,7 @@ class Asked:
         findings = findings_of(self.answer.output)
         for finding in findings:
             finding.between = finding.between or Between(Kind.UNKNOWN, reason=self.reason)
-        if os.path.exists(os.path.join(self.folder, WEAK)):
-            from .room import room_for
-            from .weak import weaken
-            with room_for(self.folder) as room:
-                weaken(findings, self.folder, self.traces, room)
+        self.weigh(findings)
         for finding in self.signals.findings if self.signals else ():
             finding.place = finding.number = len(findings) + 1
             findings.append(finding)
@@ -87,6 +83,18 @@ class Asked:
             with room_for(self.folder) as room:
                 note_nested(self.folder, self, findings, room)
         return by_importance(findings)
+
+    def weigh(self, findings: list) -> None:
+        """What the recording says of single acquisitions, and of which thread was joined first, gives findings verdicts of their own."""
+        from .room import room_for
+        if os.path.exists(os.path.join(self.folder, WEAK)):
+            from .weak import weaken
+            with room_for(self.folder) as room:
+                weaken(findings, self.folder, self.traces, room)
+        if not self.reason and os.path.exists(os.path.join(self.folder, LIVES)):
+            from .turns import find_turns
+            with room_for(self.folder) as room:
+                find_turns(findings, self.folder, self.traces, room)
 
 
 def ask_about(folder: str) -> Asked:

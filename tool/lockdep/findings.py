@@ -24,7 +24,8 @@ class Kind(Enum):
     LOCKS = "locks"
     PERHAPS = "perhaps"
     UNKNOWN = "unknown"
-    ENDED = "ended-thread"  # between locks, and only where the joined thread had ended: this and the next three are no kinds of the checker's
+    BEFORE = "joined-before"  # between locks, and only where another thread of the cycle had been joined: this and the next four are no kinds of the checker's
+    ENDED = "ended-thread"  # between locks, and only where the joined thread had ended
     ANY = "timed-ended-thread-or-new-lock"  # between locks, and only so, by waits that give up, or while a lock was new
     TIMED = "timed"  # between locks, and only by waits that give up
     EITHER = "timed-or-new-lock"  # between locks, and only so or while a lock was new
@@ -33,9 +34,10 @@ class Kind(Enum):
     TYPES = "types"
     NESTED = "nested"
     NESTED_CLASS = "nested-class"  # between classes of a recording that few callers name, and gone with more: no kind of the checker's either
+    NEVER = "never"  # as BEFORE, also between classes and types; nor is this one
 
 
-NOTES = (Kind.NESTED, Kind.NESTED_CLASS)
+NOTES = (Kind.NESTED, Kind.NESTED_CLASS, Kind.NEVER)
 
 
 @dataclass(frozen=True)
@@ -148,7 +150,7 @@ class Finding:
 
     @property
     def is_note(self) -> bool:
-        """A type nested in itself is a note, and no finding, and so is a class of which a few more callers make several."""
+        """A type nested in itself is a note, and no finding, and so are a class of which a few more callers make several, and a cycle that can't be."""
         return self.kind in NOTES
 
     @property

@@ -282,10 +282,13 @@ class Report:
 
     def note_words(self) -> str:
         from .findings import Kind
-        of_classes = sum(finding.kind is Kind.NESTED_CLASS for finding in self.notes)
-        numbers = (len(self.notes) - of_classes, "type", "types"), (of_classes, "class", "classes")
-        words = "%s %s" % (" and ".join(counted(*number) for number in numbers if number[0]), "is" if len(self.notes) == 1 else "are")
-        return "%s nested in itself, which is a note: `lockdep confirm %s` shows it" % (words, self.recording.folder)
+        in_turn, of_classes = (sum(note.kind is kind for note in self.notes) for kind in (Kind.NEVER, Kind.NESTED_CLASS))
+        of_types = len(self.notes) - in_turn - of_classes
+        nested = [counted(*number) for number in ((of_types, "type", "types"), (of_classes, "class", "classes")) if number[0]]
+        verb = "is" if of_types + of_classes == 1 else "are"
+        kinds = ["%s %s nested in itself" % (" and ".join(nested), verb)] if nested else []
+        kinds += ["%s of threads that were joined one before another" % counted(in_turn, "cycle is", "cycles are")] if in_turn else []
+        return "%s, which is a note: `lockdep confirm %s` shows it" % ("; ".join(kinds), self.recording.folder)
 
     def say_end(self) -> None:
         if self.recording.status:

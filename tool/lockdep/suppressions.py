@@ -39,6 +39,7 @@ EXCUSED = {
     Kind.LOCKS: "seen between locks",
     Kind.PERHAPS: "perhaps seen between locks",
     Kind.UNKNOWN: "not known whether seen between locks",
+    Kind.BEFORE: "seen only where another thread of the cycle had been joined before",
     Kind.ENDED: "seen only where the joined thread had ended",
     Kind.ANY: "seen only by timed waits, where the joined thread had ended, or while a lock was new",
     Kind.TIMED: "seen only by timed waits",
@@ -47,6 +48,7 @@ EXCUSED = {
     Kind.NEW: "seen only while a lock was new",
     Kind.TYPES: "seen only between types",
     Kind.NESTED: "seen only between types, as one type nested in itself",
+    Kind.NEVER: "seen only where another thread of the cycle had been joined before, as a note",
 }
 KINDS = list(EXCUSED)  # the strongest first
 STRONGEST = {Kind.ANY: Kind.ENDED, Kind.EITHER: Kind.TIMED, Kind.NESTED_CLASS: Kind.NESTED}

@@ -22,9 +22,11 @@ ONLY = {
     Kind.CLASSES: ("seen only between classes; no two locks were taken both ways", "seen only between classes, not between single locks"),
     Kind.TYPES: ("seen only between types, not between classes",) * 2,
     Kind.NESTED: ("seen only between types, as one type nested in itself: a note, and no finding",) * 2,
+    Kind.NEVER: ("seen only where another thread of the cycle had been joined before: a note, and no finding",) * 2,
 }
 BETWEEN_LOCKS = {
     Kind.LOCKS: "seen between locks",
+    Kind.BEFORE: "seen only where another thread of the cycle had been joined before",
     Kind.ENDED: "seen only where the joined thread had ended",
     Kind.ANY: "seen only by timed waits, where the joined thread had ended, or while a lock was new",
     Kind.TIMED: "seen only by timed waits",
