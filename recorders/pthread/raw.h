@@ -283,6 +283,9 @@ struct raw_thread {
     uint32_t system_thread; /* by which number the thread's own code and its runs belong together */
     uint32_t start;         /* the class as which the thread is joined; 0 if that isn't known */
     uint32_t is_of_parent;  /* of a run: it began in the process that forked this one, and its locks may be held by what it interrupted there */
+    uint32_t pauses;    /* grows as the thread, or a handler that runs on it, begins to wait, and when it doesn't wait any more */
+    uint32_t last;      /* if it ended with nothing held: what was taken last with nothing held, as in raw_record, unless that was a try; else 0 */
+    uint64_t last_lock; /* its address */
     char name[RAW_CALLED];
     uint64_t chunks[RAW_CHUNKS]; /* where they begin in the file; 0 if there is none yet */
 };

@@ -342,11 +342,36 @@ EXPORT int sem_destroy(sem_t *lock) {
     return answer;
 }
 
+/* One that isn't recorded may be waited for too. */
+static bool takes_at_once(sem_t *lock) {
+    int saved = errno;
+    pthread_testcancel(); /* as the call itself does */
+    bool is_taken = REAL(sem_trywait)(lock) == 0;
+    errno = saved;
+    return is_taken;
+}
+
+static bool begin_pause(void) {
+    note_pause();
+    return true;
+}
+
+static void end_pause(bool *is_begun) {
+    if (*is_begun)
+        note_pause();
+}
+
 /* Tries first, as with a mutex. A wait that a signal ends is withdrawn. */
 #define WAITING(name, mode, is_sound, parameters, arguments)                                                           \
     EXPORT int name parameters {                                                                                       \
-        if (!SEMAPHORES || !(is_sound) || is_left_out(lock))                                                           \
+        if (!SEMAPHORES || !(is_sound) || is_left_out(lock)) {                                                         \
+            if (!is_recording() || !(is_sound))                                                                         \
+                return REAL(name) arguments;                                                                           \
+            if (takes_at_once(lock))                                                                                   \
+                return 0;                                                                                              \
+            bool is_begun __attribute__((cleanup(end_pause))) = begin_pause();                                         \
             return REAL(name) arguments;                                                                               \
+        }                                                                                                              \
         int saved = errno, answer = REAL(sem_trywait)(lock);                                                           \
         if (answer == 0) {                                                                                             \
             took(lock, mode, HERE);                                                                                    \

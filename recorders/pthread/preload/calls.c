@@ -236,6 +236,7 @@ struct waiting {
 };
 
 static void begin_wait(struct waiting *w, bool is_sound) {
+    note_pause();
     w->is_released = is_sound && is_held_once(w->lock);
     if (w->is_released) {
         w->subclass = subclass_held(w->lock);
@@ -245,6 +246,7 @@ static void begin_wait(struct waiting *w, bool is_sound) {
 
 static void end_wait(void *value) {
     struct waiting *w = value;
+    note_pause();
     if (w->is_released) {
         if (RARELY(w->subclass))
             say_subclass(w->lock, w->subclass);

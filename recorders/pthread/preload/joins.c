@@ -120,8 +120,9 @@ bool is_first_thread(void) { return this_thread() == first_thread; }
    That it was started may not be noted yet, if who started it had to wait for a processor. */
 static bool matters(void) { return is_any_held() || !is_first_thread() || run_source(); }
 
-/* ---- Whether the thread had ended. Who joins it may have known that it takes no lock any more, as after it says under a lock that it is done:
-   it is then about to end, and is waited for here so often. */
+/* ---- Whether the thread had ended. Who joins it may have known that it takes some lock no more, as after it says under that lock that it is
+   done: it is then about to end, and is waited for here so often. On its way it may take one more lock, as one of its own, if that is free and it
+   held last what is held here. Who joins it waits for that one too, and so it is taken and given back there. */
 #define LOOKS 10
 #define BETWEEN_LOOKS 100000 /* nanoseconds */
 
@@ -132,13 +133,27 @@ static void pause_looking(void) {
     errno = saved;
 }
 
-/* Nothing is known of a thread without a trace. One that takes or releases a lock meanwhile hadn't ended. */
-static bool had_ended(pthread_t thread) {
-    const struct raw_thread *part = part_of_life(thread);
-    uint64_t calls = part ? LOAD(&part->calls) : 0;
-    for (int i = 0; part && !LOAD(&part->ended) && LOAD(&part->calls) == calls && i < LOOKS; i++)
+enum ending { GOES_ON, HAD_ENDED, TAKES_ONE };
+
+#define OF_ONE_LOCK 2 /* so many calls are an acquisition and a release */
+
+/* Whether it ends, and meanwhile waits for nothing and makes no more calls than that. */
+static bool ends_soon(const struct raw_thread *part, uint32_t pauses, uint64_t calls, uint64_t most) {
+    for (int i = 0; i < LOOKS && !LOAD(&part->ended) && LOAD(&part->calls) - calls <= most && LOAD(&part->pauses) == pauses; i++)
         pause_looking();
-    return part && LOAD(&part->ended) && LOAD(&part->calls) == calls;
+    return LOAD(&part->ended) && LOAD(&part->calls) - calls <= most && LOAD(&part->pauses) == pauses;
+}
+
+/* Nothing is known of a thread without a trace. */
+static enum ending look_at_end(pthread_t thread) {
+    const struct raw_thread *part = part_of_life(thread);
+    uint32_t pauses = part ? LOAD(&part->pauses) : 0;
+    uint64_t calls = part ? LOAD(&part->calls) : 0;
+    if (!part || !ends_soon(part, pauses, calls, has_passed_on(part) ? OF_ONE_LOCK : 0))
+        return GOES_ON;
+    if (part->calls == calls)
+        return HAD_ENDED;
+    return part->calls == calls + OF_ONE_LOCK && part->last && !held_object(part->last_lock) ? TAKES_ONE : GOES_ON;
 }
 
 /* Whether it is recorded that the thread is waited for. Nothing is, if this one has no trace and runs no handler: then it holds nothing. */
@@ -151,9 +166,11 @@ static bool begin_join(pthread_t thread, uint8_t weak, struct call call) {
     return is_wish;
 }
 
+static uint8_t mode_of_last(const struct raw_thread *part) { return part->last >> RAW_OBJECT_BITS & (uint8_t)~RAW_IN_ORDER; }
+
 /* What was recorded while it was waited for is taken back: that the thread has locks may be known only now, and if it has none, nothing is
    recorded. What it has released of this one's locks is looked at here, whether it was quick or not. */
-static void end_join(pthread_t thread, uint8_t weak, bool is_wish, bool has_ended, struct call call) {
+static void end_join(pthread_t thread, uint8_t weak, bool is_wish, enum ending ending, bool has_ended, struct call call) {
     if (is_wish)
         end_wish((uintptr_t)thread, false, call);
     if (!is_recording() || !has_ended)
@@ -161,7 +178,9 @@ static void end_join(pthread_t thread, uint8_t weak, bool is_wish, bool has_ende
     const struct raw_thread *part = part_of_life(thread);
     bool is_told = part && LOAD(&part->count) && matters();
     if ((is_told || has_trace()) && enter_recorder(call)) {
-        pass_end((uintptr_t)thread, is_told ? object_of(thread) : 0, MODE_WRITE | weak, call);
+        pass_end((uintptr_t)thread, is_told ? object_of(thread) : 0, MODE_WRITE | weak | (ending ? RAW_ENDED : 0), call);
+        if (is_told && ending == TAKES_ONE)
+            pass_end(part->last_lock, raw_object(part->last), mode_of_last(part) | weak, call);
         end_inside();
     }
     if (!is_told)
@@ -173,10 +192,10 @@ static void end_join(pthread_t thread, uint8_t weak, bool is_wish, bool has_ende
     EXPORT int name parameters {                                                                                       \
         uint32_t known = lives_so_far();                                                                               \
         bool is_wish = begin_join(thread, weak, HERE);                                                                 \
-        uint8_t ended = is_wish && had_ended(thread) ? RAW_ENDED : 0;                                                  \
+        enum ending ending = is_wish ? look_at_end(thread) : GOES_ON;                                                  \
         int answer = REAL(name) arguments;                                                                             \
         note_join(thread, known, answer);                                                                              \
-        end_join(thread, (weak) | ended, is_wish, answer == 0, HERE);                                                  \
+        end_join(thread, weak, is_wish, ending, answer == 0, HERE);                                                    \
         return answer;                                                                                                 \
     }
 

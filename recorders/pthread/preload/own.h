@@ -384,6 +384,8 @@ bool end_wish(uintptr_t lock, bool is_taken, struct call call);
 bool wish_for_end(uintptr_t thread, uint32_t object, uint8_t mode, struct call call); /* inside the recorder; end_wish is to follow */
 void pass_end(uintptr_t thread, uint32_t object, uint8_t mode, struct call call); /* inside the recorder */
 bool has_trace(void);
+void note_pause(void); /* this thread begins to wait for something, or doesn't wait for it any more */
+bool has_passed_on(const struct raw_thread *raw); /* a thread holds nothing, and has held last what this one holds now */
 void pass_lock(uintptr_t lock, uint8_t mode, enum kind kind, struct call call); /* inside the recorder: it is taken and given back */
 void note_handing_on(void); /* by what isn't seen otherwise: what this thread has made isn't new any more */
 void releasing(uintptr_t lock, struct call call);

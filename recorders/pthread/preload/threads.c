@@ -74,6 +74,7 @@ static bool begin_trace(struct thread *t, uint32_t source) {
     uint32_t number = take_part(RAW_THREADS);
     if (!number)
         return false;
+    t->entries[0].held.lock = NO_LOCK;
     begin_raw(t, number, source);
     begin_in_no_state(t, source);
     for (int i = 0; i < RAW_CHUNKS; i++) {
@@ -149,10 +150,12 @@ void note_own_lock(uintptr_t lock) {
 
 static void end_loading(struct thread *t);
 static void withdraw_all(struct thread *t, uintptr_t caller);
+static void note_last(struct thread *t);
 
 static void end_own_thread(struct thread *t) {
     end_loading(t);
     withdraw_all(t, CALLER);
+    note_last(t);
     forget_own_locks(t);
     self.thread = NULL;
     STORE(&t->raw->ended, 1);
@@ -319,6 +322,23 @@ static inline uint32_t object_of(const struct held *h) { return raw_object(h->wh
 static inline enum mode mode_of(const struct held *h) { return raw_mode(h->what[BY_OBJECTS]); }
 static inline uint8_t mode_with_weak(const struct held *h) { return (uint8_t)(mode_of(h) | h->weak); }
 static inline uint32_t what_written(const struct held *h) { return h->what[BY_OBJECTS] | raw_what(0, h->weak); }
+
+/* What a thread has taken last with nothing held stays in its first entry. */
+static void note_last(struct thread *t) {
+    const struct held *last = &t->entries[0].held;
+    if (t->depth || last->lock == NO_LOCK || raw_plain(mode_of(last)) >= MODE_TRY_WRITE)
+        return;
+    t->raw->last = what_written(last);
+    t->raw->last_lock = last->lock;
+}
+
+/* Whether a thread goes on, holds nothing, and has held last what this one holds now. */
+bool has_passed_on(const struct raw_thread *raw) {
+    const struct thread *t = LOAD(&raw->ended) ? NULL : LOAD(&threads);
+    while (t && LOAD(&t->raw) != raw)
+        t = t->next;
+    return t && !LOAD(&t->depth) && held_object(LOAD(&LOAD(&t->entries)->held.lock));
+}
 
 static void put_seen(uint64_t *seen, size_t mask, uint64_t way) {
     size_t i = way >> 1 & mask;
@@ -764,7 +784,8 @@ static void push_held(struct thread *t, uintptr_t lock, uint32_t object, uint8_t
         for (uint32_t i = 0; i < t->depth; i++)
             tell_apart(t, i);
     }
-    if (raw_plain(mode) < MODE_TRY_WRITE && t->failed != lock) /* else it may be std::lock, which takes what it is given in any order */
+    bool is_in_any_order = t->failed == lock; /* it may be std::lock, which takes what it is given so */
+    if (raw_plain(mode) < MODE_TRY_WRITE && !is_in_any_order && kind != KIND_THREAD)
         look_at_taker(class_of(object), call);
     if (RARELY(t->source))
         note_what_it_knows(lock, object, kind);
@@ -1010,7 +1031,22 @@ static enum raw_waits waits_by(uint8_t mode) {
     return LOAD(&is_exiting) ? RAW_WAITS_AT_EXIT : RAW_WAITS;
 }
 
+/* The part of the thread's own code, on which handlers may run. */
+static struct raw_thread *own_raw(void) {
+    for (uint32_t level = 0; level <= level_of_runs(); level++)
+        if (*thread_at_level(level))
+            return (*thread_at_level(level))->raw;
+    return NULL;
+}
+
+void note_pause(void) {
+    struct raw_thread *raw = own_raw();
+    if (raw)
+        __atomic_fetch_add(&raw->pauses, 1, __ATOMIC_RELEASE);
+}
+
 static void push_wish(struct thread *t, uintptr_t lock, uint32_t object, uint8_t mode, enum kind kind, struct call call) {
+    note_pause();
     push_held(t, lock, object, mode, kind, call, true);
     if (!t->wish.frame)
         t->wish = call;
@@ -1051,7 +1087,7 @@ bool wish_for_end(uintptr_t thread, uint32_t object, uint8_t mode, struct call c
     return true;
 }
 
-/* A thread that has ended is taken and given back, unless its object is 0. */
+/* A thread that has ended is taken and given back, unless its object is 0; or a lock that it took meanwhile, of which this one isn't the taker. */
 void pass_end(uintptr_t thread, uint32_t object, uint8_t mode, struct call call) {
     struct thread *t = self.thread;
     if (!has_room_for_end(t, call) || !object)
@@ -1085,6 +1121,8 @@ static void withdraw(struct thread *t, uint32_t i, uintptr_t caller) {
 }
 
 static void end_waiting(struct thread *t) {
+    if (t->wish.frame)
+        note_pause();
     t->wish.frame = 0;
     STORE(&t->raw->waits, RAW_WAITS_NOT);
 }

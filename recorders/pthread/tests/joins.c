@@ -4,6 +4,12 @@
      ended    as held, but the thread ends at once, and is joined only then
      says     the thread says under the lock that it is done, and who joins it with the lock held waits for that
      exits    the same, and then it ends by pthread_exit, when it is waited for
+     cleans   the same, but then it takes a lock of its own, when it is waited for
+     queues   as cleans, and another thread has that lock, which it gives back as soon as the thread waits for it
+     posted   as exits, but then it waits for a semaphore, which is posted as soon as it waits
+     crosses  as cleans, and another thread takes that lock, and under it the one that is held when the thread is waited for
+     two      as cleans, and it takes a second lock after that
+     works    as cleans, but the lock that is held when it is waited for isn't the last that it had before
      woken    as held, and the thread waits for a condition, which comes when it is waited for, and then ends at once
      both     says, and held with other locks and threads
      again    ended, and then held with another thread
@@ -23,8 +29,12 @@
 #include "common.h"
 #include "asleep.h"
 #include <sched.h>
+#include <semaphore.h>
+#include <sys/time.h>
 
 static pthread_mutex_t state = PTHREAD_MUTEX_INITIALIZER, log_lock = PTHREAD_MUTEX_INITIALIZER, made, *taken = &state;
+static pthread_mutex_t own = PTHREAD_MUTEX_INITIALIZER, second = PTHREAD_MUTEX_INITIALIZER;
+static sem_t is_posted;
 static pthread_cond_t has_said = PTHREAD_COND_INITIALIZER;
 static const char *way;
 static pthread_t first;
@@ -32,6 +42,9 @@ static int is_done;                            /* what `finisher` says */
 static int goes_on, has_released, is_last = 1; /* of `worker`, and whether nothing comes before its join */
 
 static int is(const char *name) { return strcmp(way, name) == 0; }
+
+static int is_joined, comes_to_wait;
+static char number_of_finisher[16], folder_of_finisher[48]; /* the system's */
 
 static int is_joiner_first(void) { return is("hangs") || is("made_hangs"); }
 
@@ -69,17 +82,55 @@ static void await_first_asleep(void) {
         sched_yield();
 }
 
+/* Whether the finisher goes on until it is waited for. */
+static int ends_joined(void) { return !is("says") && !is("both") && !is("woken"); }
+
+static void know_finisher(void) {
+    snprintf(number_of_finisher, sizeof number_of_finisher, "%ld", (long)syscall(SYS_gettid));
+    snprintf(folder_of_finisher, sizeof folder_of_finisher, "/proc/self/task/%s", number_of_finisher);
+}
+
+/* What a thread does that has said that it is done, when it is waited for. */
+static void end_waited_for(void) {
+    while (!__atomic_load_n(&is_joined, __ATOMIC_SEQ_CST))
+        sched_yield();
+    set(&comes_to_wait, 1);
+    if (is("exits"))
+        pthread_exit(NULL);
+    if (is("posted"))
+        sem_wait(&is_posted);
+    else
+        TAKE(&own);
+    if (is("two"))
+        TAKE(&second);
+}
+
 static void *finisher(void *unused) {
+    know_finisher();
+    if (is("works"))
+        TAKE(&state);
     pthread_mutex_lock(&log_lock);
     is_done = 1;
     pthread_cond_signal(&has_said);
     pthread_mutex_unlock(&log_lock);
-    if (is("exits")) {
-        await_first_asleep();
-        pthread_exit(unused);
-    }
+    if (ends_joined())
+        end_waited_for();
     return unused;
 }
+
+/* Gives what the finisher waits for as soon as that waits. */
+static void *giver(void *unused) {
+    unsigned long times = 0;
+    pthread_mutex_lock(&own);
+    set(&has_released, 1);
+    while (!__atomic_load_n(&comes_to_wait, __ATOMIC_SEQ_CST) || !asleep_till_woken(getpid(), number_of_finisher, &times))
+        sched_yield();
+    pthread_mutex_unlock(&own);
+    sem_post(&is_posted);
+    return unused;
+}
+
+THREAD(crosser, NEST(&own, &log_lock))
 
 static void *idle(void *unused) { return unused; }
 
@@ -135,16 +186,43 @@ static void join_under(pthread_mutex_t *lock, pthread_t thread) {
     pthread_mutex_unlock(lock);
 }
 
+/* Interrupts the joiner as it looks whether the thread ends, which goes on only when that has ended: so it ends soon on a busy machine too. */
+static void stay(int unused) {
+    (void)unused;
+    set(&is_joined, 1);
+    while (access(folder_of_finisher, F_OK) == 0)
+        sched_yield();
+}
+
+static void stay_soon(void) {
+    const struct itimerval soon = {.it_value = {.tv_usec = 500}};
+    signal(SIGALRM, stay);
+    setitimer(ITIMER_REAL, &soon, NULL);
+}
+
 static void join_finisher(void) {
+    pthread_mutex_t *held = is("works") ? &state : &log_lock;
     pthread_t thread;
-    set(&is_last, 0);
     pthread_create(&thread, NULL, finisher, NULL);
     pthread_mutex_lock(&log_lock);
     while (!is_done)
         pthread_cond_wait(&has_said, &log_lock);
-    set(&is_last, 1);
+    if (is("works")) {
+        pthread_mutex_unlock(&log_lock);
+        pthread_mutex_lock(&state);
+    }
+    if (ends_joined())
+        stay_soon();
     pthread_join(thread, NULL);
-    pthread_mutex_unlock(&log_lock);
+    pthread_mutex_unlock(held);
+}
+
+static void join_given(void) {
+    pthread_t gives;
+    pthread_create(&gives, NULL, giver, NULL);
+    await(&has_released);
+    join_finisher();
+    pthread_join(gives, NULL);
 }
 
 static void join_going_on(void) {
@@ -185,8 +263,12 @@ int main(int argc, char **argv) {
         join_under(taken, started(worker));
     if (is("woken"))
         join_woken();
-    if (is("says") || is("exits") || is("both"))
+    if (is("crosses"))
+        in_thread(crosser, NULL);
+    if (is("says") || is("exits") || is("both") || is("cleans") || is("crosses") || is("two") || is("works"))
         join_finisher();
+    if (is("queues") || is("posted"))
+        join_given();
     if (is("held") || is("made") || is("both") || is("again"))
         join_going_on();
     if (is("other"))
