@@ -179,7 +179,7 @@ static const char *behind(const char *line, const char *word) {
     return strncmp(line, word, length) == 0 ? line + length : NULL;
 }
 
-#define MOST_OF_MAKER 1500 /* bytes of code: a longer function does more than make a lock for its caller */
+#define MOST_OF_MAKER 2000 /* bytes of code: a longer function does more than make a lock for its caller */
 
 static enum passing look_up(uint64_t word) {
     if (is_library(word))
