@@ -20,6 +20,7 @@ final class ClassFile {
     static final int METHOD_OF_INTERFACE = 11;
     static final int HANDLE = 15;
     static final int DYNAMIC_CALL = 18;
+    private static final String CONSTRUCTOR = "<init>";
     private static final int TEXT = 1;
     private static final int LONG = 5;
     private static final int DOUBLE = 6;
@@ -52,7 +53,7 @@ final class ClassFile {
 
         Method(int at) {
             access = number(at);
-            isConstructor = isText(number(at + 2), "<init>");
+            isConstructor = isText(number(at + 2), CONSTRUCTOR);
         }
 
         boolean isStatic() {
@@ -71,7 +72,6 @@ final class ClassFile {
     final String[] interfaces;
     final Method[] methods;
     final boolean hasSerialVersion;
-    private final int self;
     /** The first line that has code; 0 if the file has no lines. */
     int firstLine;
     String sourceFile;
@@ -84,8 +84,7 @@ final class ClassFile {
         version = number(6);
         constants = new int[number(8)];
         int at = findConstants();
-        self = number(at + 2);
-        name = nameOfClass(self);
+        name = nameOfClass(number(at + 2));
         superName = nameOfClass(number(at + 4));
         interfaces = new String[number(at + 6)];
         for (int each = 0; each < interfaces.length; each++) interfaces[each] = nameOfClass(number(at + 8 + 2 * each));
@@ -252,8 +251,17 @@ final class ClassFile {
         return nameOfClass(part(constant, 1));
     }
 
-    boolean isOwnConstructor(int method) {
-        return part(method, 1) == self && isText(part(part(method, 3), 1), "<init>");
+    /** Whether a method is a constructor, whose name is the only one with these letters. */
+    boolean isConstructor(int method) {
+        int name = part(part(method, 3), 1);
+        return part(name, 1) == CONSTRUCTOR.length() && letter(name, 0) == CONSTRUCTOR.charAt(0);
+    }
+
+    boolean begins(int text, String beginning) {
+        int at = 0;
+        boolean isLonger = part(text, 1) > beginning.length();
+        while (isLonger && at < beginning.length() && letter(text, at) == beginning.charAt(at)) at++;
+        return at == beginning.length();
     }
 
     String nameOfMember(int constant) {

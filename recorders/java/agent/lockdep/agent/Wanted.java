@@ -13,6 +13,8 @@ final class Wanted {
             Hierarchy.LOCKS + "StampedLock"));
     private static final Words BUFFER = new Words(Set.of(Locking.BUFFER));
 
+    private static final String JAVA = "java/";
+
     /** In a method with more code than this, constructors aren't told where they are called. */
     private static final int LONGEST = 30000;
 
@@ -62,13 +64,17 @@ final class Wanted {
                 return LOCKS.has(type, name) || hasBuffers && BUFFER.has(type, name);
             case ClassFile.METHOD:
             case ClassFile.METHOD_OF_INTERFACE:
-                return Calls.mayMatter(type, constant)
-                        || tells && type.isOwnConstructor(constant) && hierarchy.isOfItself(type.name);
+                return Calls.mayMatter(type, constant) || tells && isToldConstructor(constant);
             case ClassFile.FIELD: // what is made may be kept there
                 return locking.locksFields() && locking.isLocked(type.owner(constant), type.nameOfMember(constant));
             default:
                 return false;
         }
+    }
+
+    private boolean isToldConstructor(int method) {
+        int owner = type.part(type.part(method, 1), 1);
+        return type.isConstructor(method) && !type.begins(owner, JAVA) && hierarchy.isOfItself(type.text(owner));
     }
 
     private void addDynamicCalls() {
@@ -88,10 +94,7 @@ final class Wanted {
         return opcode != Opcodes.GETFIELD && constants[type.number(at + 1)];
     }
 
-    /**
-     * Whether a constructor that is called in a method to be rewritten is told where. (In others it isn't, since to take
-     * these apart costs more, unless it is one of the class itself.)
-     */
+    /** Whether a constructor is told where it is called. */
     boolean isTold(ClassFile.Method method, String made) {
         return tells && method.end - method.start < LONGEST && hierarchy.isOfItself(made);
     }
