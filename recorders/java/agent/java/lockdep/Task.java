@@ -20,7 +20,6 @@ final class Task {
     private static final ThreadLocal<Task> here = new ThreadLocal<>();
 
     final WeakReference<Thread> thread;
-    final Known.Probe probe = new Known.Probe();
     final long startOfThread = System.nanoTime();
     /** Its number in the file, once it is there. */
     int number;
@@ -60,7 +59,7 @@ final class Task {
 
     private Task() {
         thread = new WeakReference<>(Thread.currentThread());
-        life = Known.ofThread(Thread.currentThread(), probe);
+        life = Known.ofThread(Thread.currentThread());
         if (life != null) life.task = this;
         stand = Provoke.begin(this);
     }
@@ -183,19 +182,21 @@ final class Task {
     }
 
     private Known monitor(Object object) {
-        Known known = recent[System.identityHashCode(object) & MOST_RECENT];
-        return known != null && known.get() == object && known.isMonitor ? known : lookUp(object, true);
+        int hash = System.identityHashCode(object); // (which takes longer for what is locked)
+        Known known = recent[hash & MOST_RECENT];
+        return known != null && known.get() == object && known.isMonitor ? known : lookUp(object, hash, true);
     }
 
     Known lock(Object lock) {
-        Known known = recent[System.identityHashCode(lock) & MOST_RECENT];
-        return known != null && known.get() == lock && !known.isMonitor ? known : lookUp(lock, false);
+        int hash = System.identityHashCode(lock);
+        Known known = recent[hash & MOST_RECENT];
+        return known != null && known.get() == lock && !known.isMonitor ? known : lookUp(lock, hash, false);
     }
 
     @Apart
-    private Known lookUp(Object object, boolean asMonitor) {
-        Known known = asMonitor ? Known.ofMonitor(object, probe) : Known.ofLock(object, probe);
-        recent[System.identityHashCode(object) & MOST_RECENT] = known;
+    private Known lookUp(Object object, int hash, boolean asMonitor) {
+        Known known = asMonitor ? Known.ofMonitor(object, hash) : Known.ofLock(object, hash);
+        recent[hash & MOST_RECENT] = known;
         return known;
     }
 
