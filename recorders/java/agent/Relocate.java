@@ -5,6 +5,7 @@ import java.nio.file.FileSystems;
 import java.nio.file.Files;
 import java.nio.file.Path;
 import java.util.List;
+import java.util.Map;
 import java.util.stream.Collectors;
 import java.util.stream.Stream;
 
@@ -13,16 +14,17 @@ import org.objectweb.asm.ClassWriter;
 import org.objectweb.asm.commons.ClassRemapper;
 import org.objectweb.asm.commons.Remapper;
 
-/** Gathers classes into a folder, ASM's and an annotation's under other names: Relocate FOLDER (FOLDER | JAR)... */
+/** Gathers classes into a folder, ASM's and two annotations' under other names: Relocate FOLDER (FOLDER | JAR)... */
 final class Relocate extends Remapper {
     private static final String FROM = "org/objectweb/asm/";
     private static final String TO = "lockdep/asm/";
-    private static final String APART = "java/lockdep/Apart";
-    private static final String NOT_INLINED = "jdk/internal/vm/annotation/DontInline";
+    /** The JDK's own annotations by those of the recorder. */
+    private static final Map<String, String> ANNOTATIONS = Map.of("java/lockdep/Apart",
+            "jdk/internal/vm/annotation/DontInline", "java/lockdep/Within", "jdk/internal/vm/annotation/ForceInline");
 
     @Override
     public String map(String name) {
-        if (name.equals(APART)) return NOT_INLINED;
+        if (ANNOTATIONS.containsKey(name)) return ANNOTATIONS.get(name);
         return name.startsWith(FROM) ? TO + name.substring(FROM.length()) : name;
     }
 
@@ -33,9 +35,9 @@ final class Relocate extends Remapper {
                     .collect(Collectors.toList());
         }
         for (Path file : files) {
-            if (file.endsWith(APART + ".class")) continue;
             try (InputStream bytes = Files.newInputStream(file)) {
                 ClassReader reader = new ClassReader(bytes);
+                if (ANNOTATIONS.containsKey(reader.getClassName())) continue;
                 ClassWriter writer = new ClassWriter(0);
                 reader.accept(new ClassRemapper(writer, this), 0);
                 Path target = to.resolve(map(reader.getClassName()) + ".class");

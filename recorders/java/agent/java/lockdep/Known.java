@@ -122,21 +122,14 @@ final class Known extends WeakReference<Object> {
 
     // ---- Locks that are taken.
 
-    static Known ofMonitor(Object object, int hash) {
-        Known known = Table.find(object, hash, true);
-        return known != null ? known : addEarly(object, hash, true);
-    }
-
-    /** What is known about a lock of java.util.concurrent.locks, or of another class that is used like one. */
-    static Known ofLock(Object lock, int hash) {
-        Known known = Table.find(lock, hash, false);
-        return known != null ? known : addLock(lock, hash);
-    }
-
+    /**
+     * What is known from here on about a monitor, or a lock of java.util.concurrent.locks or of another class that is used
+     * like one.
+     */
     @Apart
-    private static Known addLock(Object lock, int hash) {
-        Object base = baseOf(lock);
-        if (base == lock) return addEarly(lock, hash, false);
+    static Known add(Object lock, int hash, boolean isMonitor) {
+        Object base = isMonitor ? lock : baseOf(lock);
+        if (base == lock) return addEarly(lock, hash, isMonitor);
         Known known = find(base, false);
         if (known == null) {
             String name = ReentrantReadWriteLock.class.getName();
@@ -145,7 +138,6 @@ final class Known extends WeakReference<Object> {
         return add(lock, false, lock instanceof ReentrantReadWriteLock.ReadLock, known, null);
     }
 
-    @Apart
     private static Known addEarly(Object object, int hash, boolean isMonitor) {
         Known known = new Known(object, hash, isMonitor, false, null, Made.ofObject(object, isMonitor));
         known.isEarly = true;

@@ -18,6 +18,7 @@ final class Table {
     private Table() {
     }
 
+    @Within
     static Known find(Object object, int hash, boolean isMonitor) {
         Known[] table = all;
         return table[placeOf(table, object, hash, isMonitor)];
@@ -37,6 +38,7 @@ final class Table {
     }
 
     /** Where a lock is, or else would be added. */
+    @Within
     private static int placeOf(Known[] table, Object object, int hash, boolean isMonitor) {
         int last = table.length - 1;
         int at = hash & last;

@@ -1,9 +1,9 @@
 package java.lockdep;
 
+import java.lang.invoke.VarHandle;
 import java.lang.ref.WeakReference;
 import java.util.ArrayList;
 import java.util.Arrays;
-import java.util.concurrent.atomic.AtomicIntegerFieldUpdater;
 
 /**
  * A thread: what it holds, and its records that aren't in the file yet. Only the thread itself works on it, except at
@@ -16,7 +16,6 @@ final class Task {
 
     private static final int MOST_RECENT = 15;
 
-    private static final AtomicIntegerFieldUpdater<Task> BUSY = AtomicIntegerFieldUpdater.newUpdater(Task.class, "busy");
     private static final ThreadLocal<Task> here = new ThreadLocal<>();
 
     final WeakReference<Thread> thread;
@@ -33,8 +32,8 @@ final class Task {
     /** Where the newest constructor that is told its place is called; 0 once it was asked. */
     int making;
     boolean isOver;
-    /** 1 while the task is being examined. */
-    private volatile int busy;
+    /** While the task is being examined. */
+    private boolean isBusy;
     private Held[] held = new Held[4];
     private int depth;
     private Way way = new Way(Recording.common);
@@ -67,15 +66,21 @@ final class Task {
     // ---- The running task.
 
     /** The running task, which is busy from here on; null if nothing is to be recorded now. */
+    @Within
     static Task begin() {
         Task task = ofThisThreadOrNew();
         return task.beginAgain() ? task : null;
     }
 
     /** The running task is busy from here on, unless nothing is to be recorded now. */
+    @Within
     boolean beginAgain() {
-        if (busy != 0 || Recording.isOver) return false;
-        BUSY.lazySet(this, 1);
+        if (isBusy) return false;
+        isBusy = true;
+        if (Recording.isOver) { // (which is read after that was written)
+            isBusy = false;
+            return false;
+        }
         if (stand != null && stand.isAsking) Provoke.run(stand);
         return true;
     }
@@ -83,7 +88,7 @@ final class Task {
     @Apart
     private static Task add() {
         Task task = new Task();
-        BUSY.lazySet(task, 1);
+        task.isBusy = true;
         here.set(task);
         Recording.add(task);
         task.leave();
@@ -96,6 +101,7 @@ final class Task {
         return of == null ? "" : of.getName().replace('\n', '?').replace('\r', '?');
     }
 
+    @Within
     static Task ofThisThreadOrNew() {
         Task task = here.get();
         return task != null ? task : add();
@@ -107,12 +113,16 @@ final class Task {
     }
 
     /** The task is no longer being examined. */
+    @Within
     void leave() {
-        BUSY.lazySet(this, 0);
+        VarHandle.releaseFence();
+        isBusy = false;
     }
 
     boolean isLookedAt() {
-        return busy != 0;
+        boolean isStill = isBusy;
+        VarHandle.acquireFence();
+        return isStill;
     }
 
     /**
@@ -136,6 +146,7 @@ final class Task {
 
     // ---- Monitors.
 
+    @Within
     void enter(Object object, int site, boolean isAsked) {
         Held again = depth == 0 ? null : find(object);
         if (again != null) {
@@ -151,6 +162,7 @@ final class Task {
         take(lock, object, Modes.WRITE, site);
     }
 
+    @Within
     void exit(Object object) {
         settle();
         Held entry = depth == 0 ? null : find(object);
@@ -181,12 +193,14 @@ final class Task {
         return false;
     }
 
+    @Within
     private Known monitor(Object object) {
         int hash = System.identityHashCode(object); // (which takes longer for what is locked)
         Known known = recent[hash & MOST_RECENT];
         return known != null && known.get() == object && known.isMonitor ? known : lookUp(object, hash, true);
     }
 
+    @Within
     Known lock(Object lock) {
         int hash = System.identityHashCode(lock);
         Known known = recent[hash & MOST_RECENT];
@@ -195,7 +209,8 @@ final class Task {
 
     @Apart
     private Known lookUp(Object object, int hash, boolean asMonitor) {
-        Known known = asMonitor ? Known.ofMonitor(object, hash) : Known.ofLock(object, hash);
+        Known known = Table.find(object, hash, asMonitor);
+        if (known == null) known = Known.add(object, hash, asMonitor);
         recent[hash & MOST_RECENT] = known;
         return known;
     }
@@ -215,6 +230,7 @@ final class Task {
     // ---- Locks of java.util.concurrent.locks.
 
     /** The newest held entry of a lock; as a reader, as a writer, or either. */
+    @Apart
     private Held find(Known lock, boolean isEither, boolean isReader) {
         for (int at = depth - 1; at >= 0; at--) {
             Held entry = held[at];
@@ -224,11 +240,13 @@ final class Task {
     }
 
     /** What the task already holds in such a way that another acquisition of the lock doesn't wait. */
+    @Within
     private Held again(Known lock) {
         return lock.target.isReentrant ? find(lock.target, lock.isReader, false) : null;
     }
 
     /** The task is about to wait for a lock: it is written as if it were taken. Null if there is nothing to write. */
+    @Within
     Held want(Known lock, Modes.Manner manner, int site) {
         settle();
         if (again(lock) != null) return null;
@@ -242,11 +260,13 @@ final class Task {
         return entry;
     }
 
+    @Within
     private boolean isNew() {
         return !way.isTaken && !way.common.isTaken;
     }
 
     /** What was wanted was taken. */
+    @Within
     void grant(Known lock, Held wanted, Modes.Manner manner, int site) {
         failed = null;
         if (wanted == null) {
@@ -310,6 +330,7 @@ final class Task {
     }
 
     /** A lock was taken, by a try or by a call that other code makes. */
+    @Apart
     void took(Known lock, Modes.Manner manner, int site) {
         failed = null;
         if (again(lock) != null) {
@@ -327,6 +348,7 @@ final class Task {
     }
 
     /** A lock is about to be released. Returns whether it was seen to be taken. */
+    @Within
     boolean gave(Known lock, int site) {
         settle();
         Known target = lock.target;
@@ -342,6 +364,7 @@ final class Task {
     }
 
     /** A task has released all that it held as a writer; what it holds as a reader stays, and waits for nobody. */
+    @Apart
     private void giveAll(Held entry, int site) {
         Known lock = entry.lock;
         int reads = entry.reads;
@@ -402,6 +425,7 @@ final class Task {
      * Handles what happened since the last operation: an error may have ended a wait, or others may have released what
      * this task held.
      */
+    @Within
     private void settle() {
         if (wish != null) withdraw();
         if (hasDropped) giveDropped();
@@ -415,6 +439,7 @@ final class Task {
         }
     }
 
+    @Within
     private Held take(Known lock, Object object, int mode, int site) {
         settle();
         operations++;
@@ -462,6 +487,7 @@ final class Task {
         records = Arrays.copyOf(records, 2 * records.length);
     }
 
+    @Within
     private void append(int code, int site) {
         if (2 * size == records.length) growRecords();
         records[2 * size] = code;
@@ -488,6 +514,7 @@ final class Task {
     }
 
     /** The task no longer holds a lock. What it did since it took the lock is dropped, if nothing of it was new. */
+    @Apart
     private void giveBack(Held entry) {
         operations++;
         if (held[depth - 1] != entry) {
@@ -545,6 +572,7 @@ final class Task {
     // ---- Single locks.
 
     /** A lock is taken with others held. All but the first of these were told apart when they were taken. */
+    @Apart
     private void tellAllApart(Known lock) {
         Held first = held[0];
         if (depth == 1 && (!first.lock.isApart || first.code >>> 3 != first.lock.key)) tellHeldApart(first);
