@@ -37,16 +37,11 @@ final class Wanted {
         constants = new boolean[type.countOfConstants()];
         boolean hasReference = false;
         for (int each = 1; each < constants.length; each++) {
-            constants[each] = matters(each);
+            constants[each] = mayMatter(each);
             hasReference |= type.kind(each) == ClassFile.HANDLE && Calls.mayBeReference(type, each);
         }
         if (hasReference) addDynamicCalls();
         for (ClassFile.Method method : type.methods) look(method);
-    }
-
-    /** Whether it is always noted where objects of a class are made. */
-    boolean isNoted(String name) {
-        return LOCKS.has(name) || hasBuffers && BUFFER.has(name);
     }
 
     /** Whether any method may be rewritten. */
@@ -57,7 +52,12 @@ final class Wanted {
         return false;
     }
 
-    private boolean matters(int constant) {
+    /** Whether an instruction with one of the class's constants may be rewritten. */
+    boolean matters(int constant) {
+        return constants[constant];
+    }
+
+    private boolean mayMatter(int constant) {
         switch (type.kind(constant)) {
             case ClassFile.CLASS:
                 int name = type.part(constant, 1);
@@ -83,8 +83,9 @@ final class Wanted {
 
     private void look(ClassFile.Method method) {
         method.isWanted = method.isSynchronized() || method.isConstructor && locking.isOfItself();
+        byte[] bytes = type.bytes;
         for (int at = method.start; at < method.end && !method.isWanted; at = type.after(at, method)) {
-            int opcode = type.opcode(at);
+            int opcode = bytes[at] & 255;
             if (opcode >= Opcodes.PUTSTATIC) method.isWanted = matters(opcode, at);
         }
     }
@@ -94,8 +95,8 @@ final class Wanted {
         return opcode != Opcodes.GETFIELD && constants[type.number(at + 1)];
     }
 
-    /** Whether a constructor is told where it is called. */
-    boolean isTold(ClassFile.Method method, String made) {
-        return tells && method.end - method.start < LONGEST && hierarchy.isOfItself(made);
+    /** Whether a constructor that is called in a method is told where. */
+    boolean isTold(ClassFile.Method method, int called) {
+        return constants[called] && method.end - method.start < LONGEST;
     }
 }
