@@ -330,7 +330,6 @@ final class Task {
     }
 
     /** A lock was taken, by a try or by a call that other code makes. */
-    @Apart
     void took(Known lock, Modes.Manner manner, int site) {
         failed = null;
         if (again(lock) != null) {
