@@ -33,7 +33,7 @@ final class Blocked {
         if (wanted == null || info.getThreadState() != Thread.State.BLOCKED) return false;
         int hash = wanted.getIdentityHashCode();
         if (top != null && top.object != null && System.identityHashCode(top.object) == hash) return true;
-        Known lock = Known.byHash(hash, wanted.getClassName());
+        Known lock = Table.monitorByHash(hash, wanted.getClassName());
         if (lock == null) return false;
         task.waitsFor(lock, siteOf(info));
         return true;

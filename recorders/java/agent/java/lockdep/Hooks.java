@@ -115,7 +115,7 @@ public final class Hooks {
         Task task = object == null ? null : Task.begin();
         if (task == null) return;
         try {
-            Known.made(object, Site.of(site).made(), task.probe);
+            Known.made(object, Site.of(site).made());
         } catch (Throwable error) {
             task.abandon();
             return;
@@ -135,8 +135,8 @@ public final class Hooks {
         if (task == null) return;
         try {
             Made made = task.toldOf(object);
-            if (made == null && !Known.isMade(object, task.probe)) made = Site.madeByCaller(object);
-            if (made != null) Known.made(object, made, task.probe);
+            if (made == null && !Known.isMade(object)) made = Site.madeByCaller(object);
+            if (made != null) Known.made(object, made);
         } catch (Throwable error) {
             task.abandon();
             return;
@@ -150,7 +150,7 @@ public final class Hooks {
         Task task = thread == null ? null : Task.begin();
         if (task != null) {
             try {
-                Known.started((Thread) thread, Site.of(site).ofThreads(), task.probe);
+                Known.started((Thread) thread, Site.of(site).ofThreads());
                 task.leave();
             } catch (Throwable error) {
                 task.abandon();
@@ -250,7 +250,7 @@ public final class Hooks {
         Task task = Task.begin();
         if (task == null) return condition;
         try {
-            Known.addCondition(condition, task.lock(lock), task.probe);
+            Known.addCondition(condition, task.lock(lock));
         } catch (Throwable error) {
             task.abandon();
             return condition;

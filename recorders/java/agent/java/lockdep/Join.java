@@ -31,7 +31,7 @@ final class Join {
         if (task == null) return null;
         Join join = null;
         try {
-            Known life = task.depth() > 0 || task.life != null ? Known.ofThread(thread, task.probe) : null;
+            Known life = task.depth() > 0 || task.life != null ? Known.ofThread(thread) : null;
             if (life != null) {
                 join = new Join(task, life, mannerOf(thread, isTimed), site);
             }

@@ -1,10 +1,7 @@
 package java.lockdep;
 
-import java.lang.ref.Reference;
-import java.lang.ref.ReferenceQueue;
 import java.lang.ref.WeakReference;
 import java.lang.reflect.Field;
-import java.util.concurrent.ConcurrentHashMap;
 import java.util.concurrent.locks.Condition;
 import java.util.concurrent.locks.Lock;
 import java.util.concurrent.locks.ReadWriteLock;
@@ -19,37 +16,6 @@ import java.util.concurrent.locks.StampedLock;
  */
 final class Known extends WeakReference<Object> {
     static final int MOST_APART = 32;
-    /** So many locks have room before the table grows. */
-    private static final int FIRST_ROOM = 1 << 14;
-
-    private static final ConcurrentHashMap<Object, Known> all = new ConcurrentHashMap<>(FIRST_ROOM);
-    private static final ReferenceQueue<Object> gone = new ReferenceQueue<>();
-
-    /** Finds what is known about an object. Each thread has its own. */
-    static final class Probe {
-        private Object object;
-        private int hash;
-        private boolean isMonitor;
-
-        Known find(Object wanted, boolean asMonitor) {
-            object = wanted;
-            hash = System.identityHashCode(wanted);
-            isMonitor = asMonitor;
-            Known found = all.get(this);
-            object = null;
-            return found;
-        }
-
-        @Override
-        public int hashCode() {
-            return hash;
-        }
-
-        @Override
-        public boolean equals(Object other) {
-            return other instanceof Known && ((Known) other).isOf(object, isMonitor);
-        }
-    }
 
     final int hash;
     final boolean isMonitor;
@@ -74,9 +40,9 @@ final class Known extends WeakReference<Object> {
     volatile long orders;
     volatile long number;
 
-    private Known(Object object, boolean isMonitor, boolean isReader, Known target, Made made) {
-        super(object, gone);
-        hash = System.identityHashCode(object);
+    private Known(Object object, int hash, boolean isMonitor, boolean isReader, Known target, Made made) {
+        super(object);
+        this.hash = hash;
         this.isMonitor = isMonitor;
         this.isReader = isReader;
         this.target = target == null ? this : target;
@@ -88,33 +54,19 @@ final class Known extends WeakReference<Object> {
         key = made == null ? 0 : made.rest.number;
     }
 
-    @Override
-    public int hashCode() {
-        return hash;
-    }
-
-    @Override
-    public boolean equals(Object other) {
-        if (this == other) return true;
-        Object object = get();
-        return object != null && other instanceof Known && ((Known) other).isOf(object, isMonitor);
-    }
-
-    private boolean isOf(Object object, boolean asMonitor) {
-        return isMonitor == asMonitor && get() == object;
-    }
-
     /** The name of its class. */
     String name() {
         Made known = made;
         return known == null ? "" : known.name;
     }
 
-    @Apart
-    private static Known add(Known known) {
-        for (Reference<?> old = gone.poll(); old != null; old = gone.poll()) all.remove(old);
-        Known before = all.putIfAbsent(known, known);
-        return before == null ? known : before;
+    private static Known find(Object object, boolean asMonitor) {
+        return Table.find(object, System.identityHashCode(object), asMonitor);
+    }
+
+    private static Known add(Object object, boolean isMonitor, boolean isReader, Known target, Made made) {
+        int hash = System.identityHashCode(object);
+        return Table.add(new Known(object, hash, isMonitor, isReader, target, made), object);
     }
 
     static boolean isLock(Object object) {
@@ -130,11 +82,12 @@ final class Known extends WeakReference<Object> {
 
     /** An object was made that may be used as a lock. */
     @Apart
-    static void made(Object object, Made made, Probe probe) {
+    static void made(Object object, Made made) {
         boolean isMonitor = !isLock(object);
         Object base = isMonitor ? object : baseOf(object);
-        Known known = probe.find(base, isMonitor);
-        if (known == null) known = add(new Known(base, isMonitor, false, null, made));
+        int hash = System.identityHashCode(base);
+        Known known = Table.find(base, hash, isMonitor);
+        if (known == null) known = Table.add(new Known(base, hash, isMonitor, false, null, made), base);
         else if (known.isEarly) known.nowMade(made);
         if (object instanceof ReentrantReadWriteLock) addViews((ReentrantReadWriteLock) object, known);
     }
@@ -147,72 +100,52 @@ final class Known extends WeakReference<Object> {
     }
 
     /** Whether it is known where an object was made. */
-    static boolean isMade(Object object, Probe probe) {
+    static boolean isMade(Object object) {
         boolean isMonitor = !isLock(object);
-        Known known = probe.find(isMonitor ? object : baseOf(object), isMonitor);
+        Known known = find(isMonitor ? object : baseOf(object), isMonitor);
         return known != null && !known.isEarly;
     }
 
     private static void addViews(ReentrantReadWriteLock lock, Known target) {
-        add(new Known(lock.readLock(), false, true, target, null));
-        add(new Known(lock.writeLock(), false, false, target, null));
+        add(lock.readLock(), false, true, target, null);
+        add(lock.writeLock(), false, false, target, null);
     }
 
     /** A view of a stamped lock. */
-    static void addView(Object view, boolean isReader, Known target, Probe probe) {
-        if (probe.find(view, false) == null) add(new Known(view, false, isReader, target, null));
+    static void addView(Object view, boolean isReader, Known target) {
+        if (find(view, false) == null) add(view, false, isReader, target, null);
     }
 
-    static void addCondition(Condition condition, Known lock, Probe probe) {
-        if (condition != null && probe.find(condition, false) == null) {
-            add(new Known(condition, false, false, lock.target, null));
-        }
+    static void addCondition(Condition condition, Known lock) {
+        if (condition != null && find(condition, false) == null) add(condition, false, false, lock.target, null);
     }
 
     // ---- Locks that are taken.
 
-    static Known ofMonitor(Object object, Probe probe) {
-        Known known = probe.find(object, true);
-        return known != null ? known : addEarly(object, true);
-    }
-
-    /** What is known about a lock of java.util.concurrent.locks, or of another class that is used like one. */
-    static Known ofLock(Object lock, Probe probe) {
-        Known known = probe.find(lock, false);
-        return known != null ? known : addLock(lock, probe);
-    }
-
+    /**
+     * What is known from here on about a monitor, or a lock of java.util.concurrent.locks or of another class that is used
+     * like one.
+     */
     @Apart
-    private static Known addLock(Object lock, Probe probe) {
-        Known known;
-        Object base = baseOf(lock);
-        if (base == lock) return addEarly(lock, false);
-        known = probe.find(base, false);
+    static Known add(Object lock, int hash, boolean isMonitor) {
+        Object base = isMonitor ? lock : baseOf(lock);
+        if (base == lock) return addEarly(lock, hash, isMonitor);
+        Known known = find(base, false);
         if (known == null) {
             String name = ReentrantReadWriteLock.class.getName();
-            known = add(new Known(base, false, false, null, Made.of(name, Site.placeOfClass(name), "any object of")));
+            known = add(base, false, false, null, Made.of(name, Site.placeOfClass(name), "any object of"));
         }
-        return add(new Known(lock, false, lock instanceof ReentrantReadWriteLock.ReadLock, known, null));
+        return add(lock, false, lock instanceof ReentrantReadWriteLock.ReadLock, known, null);
     }
 
-    @Apart
-    private static Known addEarly(Object object, boolean isMonitor) {
-        Known known = new Known(object, isMonitor, false, null, Made.ofObject(object, isMonitor));
+    private static Known addEarly(Object object, int hash, boolean isMonitor) {
+        Known known = new Known(object, hash, isMonitor, false, null, Made.ofObject(object, isMonitor));
         known.isEarly = true;
-        return add(known);
+        return Table.add(known, object);
     }
 
-    static Known ofCondition(Condition condition, Probe probe) {
-        return probe.find(condition, false);
-    }
-
-    /** A monitor or lock that is known, by its hash and its class. */
-    static Known byHash(int hash, String className) {
-        for (Known known : all.values()) {
-            Object object = known.hash == hash ? known.get() : null;
-            if (object != null && known.isMonitor && object.getClass().getName().equals(className)) return known;
-        }
-        return null;
+    static Known ofCondition(Condition condition) {
+        return find(condition, false);
     }
 
     // ---- The two views of a read-write lock have one object inside.
@@ -249,13 +182,13 @@ final class Known extends WeakReference<Object> {
 
     // ---- Threads, which are locks to who joins them.
 
-    static void started(Thread thread, Made made, Probe probe) {
-        if (probe.find(thread, false) == null) add(new Known(thread, false, false, null, made));
+    static void started(Thread thread, Made made) {
+        if (find(thread, false) == null) add(thread, false, false, null, made);
     }
 
     /** What is known of a thread that was seen to start, or null. */
-    static Known ofThread(Thread thread, Probe probe) {
-        Known known = probe.find(thread, false);
+    static Known ofThread(Thread thread) {
+        Known known = find(thread, false);
         return known != null && known.made != null && known.made.kind.equals(Made.STARTED) ? known : null;
     }
 

@@ -12,7 +12,7 @@ final class Part {
         Object view = isReader ? lock.asReadLock() : lock.asWriteLock();
         if (task == null) return view;
         try {
-            Known.addView(view, isReader, task.lock(lock), task.probe);
+            Known.addView(view, isReader, task.lock(lock));
         } catch (Throwable error) {
             task.abandon();
             return view;

@@ -21,7 +21,7 @@ final class Pause {
         if (task == null) return NONE;
         Pause pause = NONE;
         try {
-            Known known = Known.ofCondition(condition, task.probe);
+            Known known = Known.ofCondition(condition);
             int levels = known == null ? 0 : task.suspend(known);
             if (levels > 0) pause = new Pause(task, known, levels);
         } catch (Throwable error) {

@@ -1,9 +1,9 @@
 package java.lockdep;
 
+import java.lang.invoke.VarHandle;
 import java.lang.ref.WeakReference;
 import java.util.ArrayList;
 import java.util.Arrays;
-import java.util.concurrent.atomic.AtomicIntegerFieldUpdater;
 
 /**
  * A thread: what it holds, and its records that aren't in the file yet. Only the thread itself works on it, except at
@@ -16,11 +16,9 @@ final class Task {
 
     private static final int MOST_RECENT = 15;
 
-    private static final AtomicIntegerFieldUpdater<Task> BUSY = AtomicIntegerFieldUpdater.newUpdater(Task.class, "busy");
     private static final ThreadLocal<Task> here = new ThreadLocal<>();
 
     final WeakReference<Thread> thread;
-    final Known.Probe probe = new Known.Probe();
     final long startOfThread = System.nanoTime();
     /** Its number in the file, once it is there. */
     int number;
@@ -34,8 +32,8 @@ final class Task {
     /** Where the newest constructor that is told its place is called; 0 once it was asked. */
     int making;
     boolean isOver;
-    /** 1 while the task is being examined. */
-    private volatile int busy;
+    /** While the task is being examined. */
+    private boolean isBusy;
     private Held[] held = new Held[4];
     private int depth;
     private Way way = new Way(Recording.common);
@@ -60,7 +58,7 @@ final class Task {
 
     private Task() {
         thread = new WeakReference<>(Thread.currentThread());
-        life = Known.ofThread(Thread.currentThread(), probe);
+        life = Known.ofThread(Thread.currentThread());
         if (life != null) life.task = this;
         stand = Provoke.begin(this);
     }
@@ -68,15 +66,21 @@ final class Task {
     // ---- The running task.
 
     /** The running task, which is busy from here on; null if nothing is to be recorded now. */
+    @Within
     static Task begin() {
         Task task = ofThisThreadOrNew();
         return task.beginAgain() ? task : null;
     }
 
     /** The running task is busy from here on, unless nothing is to be recorded now. */
+    @Within
     boolean beginAgain() {
-        if (busy != 0 || Recording.isOver) return false;
-        BUSY.lazySet(this, 1);
+        if (isBusy) return false;
+        isBusy = true;
+        if (Recording.isOver) { // (which is read after that was written)
+            isBusy = false;
+            return false;
+        }
         if (stand != null && stand.isAsking) Provoke.run(stand);
         return true;
     }
@@ -84,7 +88,7 @@ final class Task {
     @Apart
     private static Task add() {
         Task task = new Task();
-        BUSY.lazySet(task, 1);
+        task.isBusy = true;
         here.set(task);
         Recording.add(task);
         task.leave();
@@ -97,6 +101,7 @@ final class Task {
         return of == null ? "" : of.getName().replace('\n', '?').replace('\r', '?');
     }
 
+    @Within
     static Task ofThisThreadOrNew() {
         Task task = here.get();
         return task != null ? task : add();
@@ -108,12 +113,16 @@ final class Task {
     }
 
     /** The task is no longer being examined. */
+    @Within
     void leave() {
-        BUSY.lazySet(this, 0);
+        VarHandle.releaseFence();
+        isBusy = false;
     }
 
     boolean isLookedAt() {
-        return busy != 0;
+        boolean isStill = isBusy;
+        VarHandle.acquireFence();
+        return isStill;
     }
 
     /**
@@ -137,6 +146,7 @@ final class Task {
 
     // ---- Monitors.
 
+    @Within
     void enter(Object object, int site, boolean isAsked) {
         Held again = depth == 0 ? null : find(object);
         if (again != null) {
@@ -152,6 +162,7 @@ final class Task {
         take(lock, object, Modes.WRITE, site);
     }
 
+    @Within
     void exit(Object object) {
         settle();
         Held entry = depth == 0 ? null : find(object);
@@ -182,20 +193,25 @@ final class Task {
         return false;
     }
 
+    @Within
     private Known monitor(Object object) {
-        Known known = recent[System.identityHashCode(object) & MOST_RECENT];
-        return known != null && known.get() == object && known.isMonitor ? known : lookUp(object, true);
+        int hash = System.identityHashCode(object); // (which takes longer for what is locked)
+        Known known = recent[hash & MOST_RECENT];
+        return known != null && known.get() == object && known.isMonitor ? known : lookUp(object, hash, true);
     }
 
+    @Within
     Known lock(Object lock) {
-        Known known = recent[System.identityHashCode(lock) & MOST_RECENT];
-        return known != null && known.get() == lock && !known.isMonitor ? known : lookUp(lock, false);
+        int hash = System.identityHashCode(lock);
+        Known known = recent[hash & MOST_RECENT];
+        return known != null && known.get() == lock && !known.isMonitor ? known : lookUp(lock, hash, false);
     }
 
     @Apart
-    private Known lookUp(Object object, boolean asMonitor) {
-        Known known = asMonitor ? Known.ofMonitor(object, probe) : Known.ofLock(object, probe);
-        recent[System.identityHashCode(object) & MOST_RECENT] = known;
+    private Known lookUp(Object object, int hash, boolean asMonitor) {
+        Known known = Table.find(object, hash, asMonitor);
+        if (known == null) known = Known.add(object, hash, asMonitor);
+        recent[hash & MOST_RECENT] = known;
         return known;
     }
 
@@ -214,6 +230,7 @@ final class Task {
     // ---- Locks of java.util.concurrent.locks.
 
     /** The newest held entry of a lock; as a reader, as a writer, or either. */
+    @Apart
     private Held find(Known lock, boolean isEither, boolean isReader) {
         for (int at = depth - 1; at >= 0; at--) {
             Held entry = held[at];
@@ -223,11 +240,13 @@ final class Task {
     }
 
     /** What the task already holds in such a way that another acquisition of the lock doesn't wait. */
+    @Within
     private Held again(Known lock) {
         return lock.target.isReentrant ? find(lock.target, lock.isReader, false) : null;
     }
 
     /** The task is about to wait for a lock: it is written as if it were taken. Null if there is nothing to write. */
+    @Within
     Held want(Known lock, Modes.Manner manner, int site) {
         settle();
         if (again(lock) != null) return null;
@@ -241,11 +260,13 @@ final class Task {
         return entry;
     }
 
+    @Within
     private boolean isNew() {
         return !way.isTaken && !way.common.isTaken;
     }
 
     /** What was wanted was taken. */
+    @Within
     void grant(Known lock, Held wanted, Modes.Manner manner, int site) {
         failed = null;
         if (wanted == null) {
@@ -326,6 +347,7 @@ final class Task {
     }
 
     /** A lock is about to be released. Returns whether it was seen to be taken. */
+    @Within
     boolean gave(Known lock, int site) {
         settle();
         Known target = lock.target;
@@ -341,6 +363,7 @@ final class Task {
     }
 
     /** A task has released all that it held as a writer; what it holds as a reader stays, and waits for nobody. */
+    @Apart
     private void giveAll(Held entry, int site) {
         Known lock = entry.lock;
         int reads = entry.reads;
@@ -401,6 +424,7 @@ final class Task {
      * Handles what happened since the last operation: an error may have ended a wait, or others may have released what
      * this task held.
      */
+    @Within
     private void settle() {
         if (wish != null) withdraw();
         if (hasDropped) giveDropped();
@@ -414,6 +438,7 @@ final class Task {
         }
     }
 
+    @Within
     private Held take(Known lock, Object object, int mode, int site) {
         settle();
         operations++;
@@ -461,6 +486,7 @@ final class Task {
         records = Arrays.copyOf(records, 2 * records.length);
     }
 
+    @Within
     private void append(int code, int site) {
         if (2 * size == records.length) growRecords();
         records[2 * size] = code;
@@ -487,6 +513,7 @@ final class Task {
     }
 
     /** The task no longer holds a lock. What it did since it took the lock is dropped, if nothing of it was new. */
+    @Apart
     private void giveBack(Held entry) {
         operations++;
         if (held[depth - 1] != entry) {
@@ -544,6 +571,7 @@ final class Task {
     // ---- Single locks.
 
     /** A lock is taken with others held. All but the first of these were told apart when they were taken. */
+    @Apart
     private void tellAllApart(Known lock) {
         Held first = held[0];
         if (depth == 1 && (!first.lock.isApart || first.code >>> 3 != first.lock.key)) tellHeldApart(first);

@@ -33,6 +33,7 @@ final class Way {
     }
 
     /** The way with one more lock. */
+    @Within
     Way to(int code) {
         return code == lastCode ? last : toOther(code);
     }

@@ -22,6 +22,7 @@ final class Wish {
      * What is to be waited for. A lock of the JDK is written before the wait. One of the program's own locks may call
      * others, so it is written after it was taken.
      */
+    @Within
     static Wish of(Object lock, Modes.Manner manner, int site) {
         Task task = lock == null ? null : Task.begin();
         if (task == null) return NONE;
@@ -50,6 +51,7 @@ final class Wish {
         task.leave();
     }
 
+    @Within
     void end(boolean isTaken, int site) {
         if (isBrokenOff || task == null || !task.beginAgain()) return;
         try {

@@ -7,8 +7,6 @@ import java.util.Map;
 import java.util.Set;
 
 import org.objectweb.asm.Opcodes;
-import org.objectweb.asm.Type;
-import org.objectweb.asm.tree.MethodInsnNode;
 
 /** The calls that are replaced by those of Hooks, which also get the object and the place of the call. */
 final class Calls {
@@ -62,6 +60,21 @@ final class Calls {
     private Calls() {
     }
 
+    /** A call in a method: its instruction, and what it calls. */
+    static final class Call {
+        final int opcode;
+        final String owner;
+        final String name;
+        final String descriptor;
+
+        Call(int opcode, String owner, String name, String descriptor) {
+            this.opcode = opcode;
+            this.owner = owner;
+            this.name = name;
+            this.descriptor = descriptor;
+        }
+    }
+
     /** Whether a method of a class's constants may be one whose calls are rewritten. */
     static boolean mayMatter(ClassFile type, int method) {
         int owner = type.part(type.part(method, 1), 1);
@@ -83,10 +96,10 @@ final class Calls {
     }
 
     /** The type that the call of Hooks has for the call's object; null if the call stays. */
-    static String receiver(MethodInsnNode call, Hierarchy hierarchy) {
-        if (call.getOpcode() != Opcodes.INVOKEVIRTUAL && call.getOpcode() != Opcodes.INVOKEINTERFACE) return null;
+    static String receiver(Call call, Hierarchy hierarchy) {
+        if (call.opcode != Opcodes.INVOKEVIRTUAL && call.opcode != Opcodes.INVOKEINTERFACE) return null;
         if (!NAMES.has(call.name)) return null;
-        String signature = call.name + call.desc;
+        String signature = call.name + call.descriptor;
         if (WAITS.contains(signature)) return "java/lang/Object";
         // (as an object of any class, so that the JVM needn't load that class to see that it is a thread)
         if (OF_THREAD.contains(signature)) {
@@ -101,9 +114,9 @@ final class Calls {
     }
 
     /** Whether the call of Hooks gets the place of the call. */
-    static boolean hasSite(MethodInsnNode call) {
+    static boolean hasSite(Call call) {
         return !call.name.equals("newCondition") && !call.name.equals("halt")
-                && !VIEWS.containsKey(call.name + call.desc);
+                && !VIEWS.containsKey(call.name + call.descriptor);
     }
 
     private static boolean isLock(String owner, Hierarchy hierarchy) {
@@ -120,9 +133,8 @@ final class Calls {
      * References.
      */
     static String objectOf(String descriptor, String owner) {
-        Type[] words = Type.getArgumentTypes(descriptor);
-        if (words.length == 0) return owner;
-        String object = words[0].getInternalName();
+        if (descriptor.startsWith("()")) return owner;
+        String object = descriptor.charAt(1) == 'L' ? descriptor.substring(2, descriptor.indexOf(';')) : "";
         return Hierarchy.LOCK.contains(object) ? object : null;
     }
 
@@ -130,10 +142,10 @@ final class Calls {
      * How far down on the stack a call has what it starts a program by: a builder, or words under an environment; 0 if
      * it starts none, or in a folder that is named.
      */
-    static int depthOfStart(MethodInsnNode call) {
+    static int depthOfStart(Call call) {
         if (call.owner.equals("java/lang/ProcessBuilder")) return call.name.equals("start") ? 1 : 0;
         if (!call.owner.equals("java/lang/Runtime") || !call.name.equals("exec")) return 0;
-        if (call.desc.contains("Ljava/io/File;")) return 0;
-        return call.desc.contains(";[L") ? 2 : 1;
+        if (call.descriptor.contains("Ljava/io/File;")) return 0;
+        return call.descriptor.contains(";[L") ? 2 : 1;
     }
 }

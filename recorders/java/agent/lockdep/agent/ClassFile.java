@@ -9,8 +9,8 @@ import java.util.Arrays;
 import org.objectweb.asm.Opcodes;
 
 /**
- * A class file, of which no more is read than what says whether anything in it is to be rewritten. (Few methods are, and
- * to take all of them apart costs more than the program's own start.)
+ * A class file, of which no more is read than what says whether anything in it is to be rewritten. (Few methods are,
+ * and to take all of them apart costs more than the program's own start.)
  */
 final class ClassFile {
     /** Kinds of constants. */
@@ -20,6 +20,8 @@ final class ClassFile {
     static final int METHOD_OF_INTERFACE = 11;
     static final int HANDLE = 15;
     static final int DYNAMIC_CALL = 18;
+    static final String LINES = "LineNumberTable";
+    private static final String CONSTRUCTOR = "<init>";
     private static final int TEXT = 1;
     private static final int LONG = 5;
     private static final int DOUBLE = 6;
@@ -27,7 +29,9 @@ final class ClassFile {
     private static final int[] LENGTHS_OF_CONSTANTS = {0, 3, 0, 5, 5, 9, 9, 3, 3, 5, 5, 5, 5, 0, 0, 4, 3, 5, 5, 3, 3};
     /** How long the instructions of each kind are; 0 if they aren't equally long. */
     private static final byte[] LENGTHS = new byte[256];
-    private static final int WIDE = 196;
+    static final int WIDE = 196;
+    static final int GOTO_W = 200;
+    static final int JSR_W = 201;
     private static final int FIRST_CONSTANT = 10;
 
     static {
@@ -41,9 +45,15 @@ final class ClassFile {
         for (int kind : new int[] {Opcodes.TABLESWITCH, Opcodes.LOOKUPSWITCH, WIDE}) LENGTHS[kind] = 0;
     }
 
-    /** A method: its code is between two places in the file, which are the same if it has none. */
+    /**
+     * A method: where it begins and ends in the file, where the attribute with its code begins, and between which places
+     * its code is, which are the same if it has none.
+     */
     final class Method {
-        private final int access;
+        final int begin;
+        int finish;
+        int attribute;
+        final int access;
         final boolean isConstructor;
         int start;
         int end;
@@ -51,8 +61,17 @@ final class ClassFile {
         boolean isWanted;
 
         Method(int at) {
+            begin = at;
             access = number(at);
-            isConstructor = isText(number(at + 2), "<init>");
+            isConstructor = isText(number(at + 2), CONSTRUCTOR);
+        }
+
+        String name() {
+            return text(number(begin + 2));
+        }
+
+        String descriptor() {
+            return text(number(begin + 4));
         }
 
         boolean isStatic() {
@@ -66,15 +85,21 @@ final class ClassFile {
 
     final byte[] bytes;
     final int version;
+    /** Its own class among the constants. */
+    final int self;
     final String name;
     final String superName;
     final String[] interfaces;
     final Method[] methods;
     final boolean hasSerialVersion;
-    private final int self;
     /** The first line that has code; 0 if the file has no lines. */
     int firstLine;
     String sourceFile;
+    /** Where the attribute with the bootstrap methods is; 0 if there is none. */
+    private int bootstraps;
+    /** Where the constants end, and the methods. */
+    final int endOfConstants;
+    final int endOfMethods;
     /** Where each constant begins. */
     private final int[] constants;
     private int next;
@@ -84,6 +109,7 @@ final class ClassFile {
         version = number(6);
         constants = new int[number(8)];
         int at = findConstants();
+        endOfConstants = at;
         self = number(at + 2);
         name = nameOfClass(self);
         superName = nameOfClass(number(at + 4));
@@ -94,8 +120,10 @@ final class ClassFile {
         methods = new Method[number(next)];
         next += 2;
         for (int each = 0; each < methods.length; each++) methods[each] = method();
+        endOfMethods = next;
         for (int left = begin(next); left > 0; left--) {
             if (isCalled("SourceFile")) sourceFile = text(number(next + 6));
+            else if (isCalled("BootstrapMethods")) bootstraps = next;
             pass();
         }
     }
@@ -150,15 +178,17 @@ final class ClassFile {
             if (isCalled("Code")) passCode(method);
             else pass();
         }
+        method.finish = next;
         return method;
     }
 
     private void passCode(Method method) {
+        method.attribute = next;
         method.start = next + 14;
         method.end = method.start + longNumber(next + 10);
         int handlers = number(method.end);
         for (int left = begin(method.end + 2 + 8 * handlers); left > 0; left--) {
-            if (isCalled("LineNumberTable")) readLines(next + 6);
+            if (isCalled(LINES)) readLines(next + 6);
             pass();
         }
     }
@@ -176,7 +206,7 @@ final class ClassFile {
         return (bytes[at] & 255) << 8 | bytes[at + 1] & 255;
     }
 
-    private int longNumber(int at) {
+    int longNumber(int at) {
         return number(at) << 16 | number(at + 2);
     }
 
@@ -184,9 +214,9 @@ final class ClassFile {
         return bytes[at] & 255;
     }
 
-    /** Where the instruction after one is, in a method. */
+    /** Where the instruction after one is, in a method. (Calls cost most of what it takes to pass all instructions.) */
     int after(int at, Method method) {
-        int length = LENGTHS[opcode(at)];
+        int length = LENGTHS[bytes[at] & 255];
         return length > 0 ? at + length : afterLong(at, method);
     }
 
@@ -199,6 +229,22 @@ final class ClassFile {
         boolean isSwitch = opcode == Opcodes.LOOKUPSWITCH || opcode == Opcodes.TABLESWITCH;
         if (!isSwitch || after <= at) throw new IllegalArgumentException("unknown instructions");
         return after;
+    }
+
+    /** Where the attribute is that has the bootstrap methods; 0 if there is none. */
+    int bootstraps() {
+        return bootstraps;
+    }
+
+    int countOfBootstraps() {
+        return bootstraps == 0 ? 0 : number(bootstraps + 6);
+    }
+
+    /** Where a bootstrap method is. */
+    int bootstrap(int number) {
+        int at = bootstraps + 8;
+        for (int left = number; left > 0; left--) at += 4 + 2 * number(at + 2);
+        return at;
     }
 
     int countOfConstants() {
@@ -239,7 +285,7 @@ final class ClassFile {
         return bytes[constants[constant] + 3 + at];
     }
 
-    private boolean isText(int constant, String wanted) {
+    boolean isText(int constant, String wanted) {
         return part(constant, 1) == wanted.length() && text(constant).equals(wanted);
     }
 
@@ -252,8 +298,17 @@ final class ClassFile {
         return nameOfClass(part(constant, 1));
     }
 
-    boolean isOwnConstructor(int method) {
-        return part(method, 1) == self && isText(part(part(method, 3), 1), "<init>");
+    /** Whether a method is a constructor, whose name is the only one with these letters. */
+    boolean isConstructor(int method) {
+        int name = part(part(method, 3), 1);
+        return part(name, 1) == CONSTRUCTOR.length() && letter(name, 0) == CONSTRUCTOR.charAt(0);
+    }
+
+    boolean begins(int text, String beginning) {
+        int at = 0;
+        boolean isLonger = part(text, 1) > beginning.length();
+        while (isLonger && at < beginning.length() && letter(text, at) == beginning.charAt(at)) at++;
+        return at == beginning.length();
     }
 
     String nameOfMember(int constant) {

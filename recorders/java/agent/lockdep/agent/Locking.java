@@ -16,7 +16,6 @@ final class Locking {
     /** Short forms of instructions, of which each has four. */
     private static final int ALOAD_0 = 42;
     private static final int ASTORE_0 = 75;
-    private static final int WIDE = 196;
 
     private final ClassFile type;
     private boolean locksThis;
@@ -50,8 +49,9 @@ final class Locking {
         int before = 0;
         int beforeThat = 0;
         int first = 0;
+        byte[] bytes = type.bytes;
         for (int at = method.start; at < method.end; at = type.after(at, method)) {
-            if (type.opcode(at) == Opcodes.MONITORENTER) noteMonitor(method, operand(before, beforeThat, first));
+            if (bytes[at] == (byte) Opcodes.MONITORENTER) noteMonitor(method, operand(before, beforeThat, first));
             first = beforeThat;
             beforeThat = before;
             before = at;
@@ -65,7 +65,7 @@ final class Locking {
     }
 
     private boolean isStore(int at) {
-        int opcode = type.opcode(at) == WIDE ? type.opcode(at + 1) : type.opcode(at);
+        int opcode = type.opcode(at) == ClassFile.WIDE ? type.opcode(at + 1) : type.opcode(at);
         return opcode == Opcodes.ASTORE || opcode >= ASTORE_0 && opcode < ASTORE_0 + 4;
     }
 

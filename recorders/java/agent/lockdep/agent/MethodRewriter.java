@@ -10,93 +10,100 @@ import java.util.HashMap;
 import java.util.List;
 import java.util.Map;
 
-import org.objectweb.asm.Handle;
 import org.objectweb.asm.Opcodes;
-import org.objectweb.asm.Type;
-import org.objectweb.asm.tree.AbstractInsnNode;
-import org.objectweb.asm.tree.FieldInsnNode;
-import org.objectweb.asm.tree.FrameNode;
-import org.objectweb.asm.tree.InsnList;
-import org.objectweb.asm.tree.InsnNode;
-import org.objectweb.asm.tree.IntInsnNode;
-import org.objectweb.asm.tree.InvokeDynamicInsnNode;
-import org.objectweb.asm.tree.LabelNode;
-import org.objectweb.asm.tree.LdcInsnNode;
-import org.objectweb.asm.tree.LineNumberNode;
-import org.objectweb.asm.tree.MethodInsnNode;
-import org.objectweb.asm.tree.MethodNode;
-import org.objectweb.asm.tree.TryCatchBlockNode;
-import org.objectweb.asm.tree.TypeInsnNode;
-import org.objectweb.asm.tree.VarInsnNode;
 
 /**
  * Rewrites a method. The added code has no branches, so the frames of the method stay right; only the handler of a
  * synchronized method gets its own frame.
  */
 final class MethodRewriter {
-    /** No more words than this are added to what is on the stack, at any place: an object and a number, and room for more. */
-    private static final int MOST_PUSHED = 4;
+    private static final int LDC_W = 19;
+    private static final int ALOAD_0 = 42;
+    private static final String OF_OBJECT = "(Ljava/lang/Object;)V";
+    private static final String OF_OBJECT_AND_SITE = "(Ljava/lang/Object;I)V";
 
     private final ClassFile type;
-    private final ClassFile.Method read;
-    private final MethodNode method;
+    private final ClassFile.Method method;
     private final Source source;
     private final Wanted wanted;
-    private final InsnList code;
+    private final Constants constants;
+    private final Code code;
+    private final Lines lines;
+    private final String name;
+    private final String descriptor;
     private final Map<Integer, Integer> madeOnLine = new HashMap<>();
-    /** The objects that are being made: the names of their classes, null if they aren't kept. */
-    private final ArrayDeque<TypeInsnNode> news = new ArrayDeque<>();
+    /** The objects that are being made: where, in the file. */
+    private final ArrayDeque<Integer> news = new ArrayDeque<>();
     private final List<Noted> noted = new ArrayList<>();
-    /** The places of constructors that are told them. */
-    private final Map<Integer, LabelNode> told = new HashMap<>();
+    /** Where constructors are called that are told their places. */
+    private final Map<Integer, Integer> told = new HashMap<>();
     private boolean isChanged;
+    /** Whether it enters its monitor by instructions. */
+    private boolean isByItself;
     private int line;
 
-    /** An object that is noted: its line, its number there, and a label before the call of its constructor, if it has one. */
+    /** An object that is noted: its line, its number there, and where its constructor is called, or -1 if it has none. */
     private static final class Noted {
         final int line;
         final int ordinal;
-        final LabelNode constructor;
+        final int constructor;
 
-        Noted(int line, int ordinal, LabelNode constructor) {
+        Noted(int line, int ordinal, int constructor) {
             this.line = line;
             this.ordinal = ordinal;
             this.constructor = constructor;
         }
     }
 
-    MethodRewriter(ClassFile type, ClassFile.Method read, MethodNode method, Source source, Wanted wanted) {
+    MethodRewriter(ClassFile type, ClassFile.Method method, Source source, Wanted wanted, Constants constants) {
         this.type = type;
-        this.read = read;
         this.method = method;
         this.source = source;
         this.wanted = wanted;
-        code = method.instructions;
+        this.constants = constants;
+        name = method.name();
+        descriptor = method.descriptor();
+        code = new Code(type, method, constants);
+        lines = new Lines(type, method);
     }
 
     /** Returns whether anything in the method is changed. */
     boolean rewrite() {
-        boolean isSynchronized = (method.access & Opcodes.ACC_SYNCHRONIZED) != 0;
-        if (isSynchronized && !canBeWrapped())
-                throw new IllegalStateException("its method " + method.name + " changes `this`");
-        AbstractInsnNode next;
-        for (AbstractInsnNode each = code.getFirst(); each != null; each = next) {
-            next = each.getNext();
-            rewrite(each);
-        }
-        if (isSynchronized) wrap();
-        if (isChanged) method.maxStack = Math.max(method.maxStack, 1) + MOST_PUSHED;
+        if (method.isSynchronized() && !new Frames(type, method, descriptor).keepThis())
+                throw new IllegalStateException("its method " + name + " changes `this`");
+        passAll();
+        if (method.isSynchronized()) wrap();
         return isChanged;
     }
 
-    private void rewrite(AbstractInsnNode each) {
-        if (each instanceof LineNumberNode) line = ((LineNumberNode) each).line;
-        else if (each instanceof MethodInsnNode) rewriteCall((MethodInsnNode) each);
-        else if (each instanceof InvokeDynamicInsnNode) rewriteReferences((InvokeDynamicInsnNode) each);
-        else if (each.getOpcode() == Opcodes.MONITORENTER) before(each, list(new InsnNode(Opcodes.DUP), site(), enter()));
-        else if (each.getOpcode() == Opcodes.MONITOREXIT) before(each, list(new InsnNode(Opcodes.DUP), exit()));
-        else if (each.getOpcode() == Opcodes.NEW) news.push((TypeInsnNode) each);
-        else if (isArray(each.getOpcode()) && isKeptInLockedField(each)) noteMade(each);
+    private void passAll() {
+        byte[] bytes = type.bytes;
+        int[] all = lines.all;
+        int next;
+        for (int at = method.start; at < method.end; at = next) {
+            next = type.after(at, method);
+            int own = all[at - method.start];
+            if (own != 0) line = own;
+            int opcode = bytes[at] & 255;
+            if (opcode >= Opcodes.INVOKEVIRTUAL) rewrite(opcode, at, next);
+        }
+    }
+
+    /** The method as it is now. */
+    void write(Bytes out) {
+        Bytes written = code.write();
+        out.putShort(isByItself ? method.access & ~Opcodes.ACC_SYNCHRONIZED : method.access);
+        out.put(type.bytes, method.begin + 2, method.attribute).put(written);
+        out.put(type.bytes, method.attribute + 6 + type.longNumber(method.attribute + 2), method.finish);
+    }
+
+    private void rewrite(int opcode, int at, int next) {
+        if (opcode <= Opcodes.INVOKEINTERFACE) rewriteCall(opcode, at, next);
+        else if (opcode == Opcodes.INVOKEDYNAMIC && wanted.matters(type.number(at + 1))) rewriteReferences(at);
+        else if (opcode == Opcodes.MONITORENTER) enter(site(before(at).put(Opcodes.DUP)));
+        else if (opcode == Opcodes.MONITOREXIT) exit(before(at).put(Opcodes.DUP));
+        else if (opcode == Opcodes.NEW) news.push(at);
+        else if (isArray(opcode) && isKeptInLockedField(next)) noteMade(at, next, -1);
     }
 
     private static boolean isArray(int opcode) {
@@ -105,63 +112,61 @@ final class MethodRewriter {
 
     // ---- Small parts.
 
-    private static InsnList list(AbstractInsnNode... parts) {
-        InsnList list = new InsnList();
-        for (AbstractInsnNode part : parts) list.add(part);
-        return list;
-    }
-
-    private static MethodInsnNode hook(String name, String descriptor) {
-        return new MethodInsnNode(Opcodes.INVOKESTATIC, Calls.HOOKS, name, descriptor, false);
-    }
-
-    private static MethodInsnNode enter() {
-        return hook("enter", "(Ljava/lang/Object;I)V");
-    }
-
-    private static MethodInsnNode exit() {
-        return hook("exit", "(Ljava/lang/Object;)V");
-    }
-
-    private static MethodInsnNode starts() {
-        return hook("starts", "(Ljava/lang/Object;)V");
-    }
-
-    private AbstractInsnNode site() {
-        return number(Site.add(source, method.name, line, 1));
-    }
-
-    private static AbstractInsnNode number(int value) {
-        return value <= Short.MAX_VALUE ? new IntInsnNode(Opcodes.SIPUSH, value) : new LdcInsnNode(value);
-    }
-
-    private void before(AbstractInsnNode each, InsnList added) {
-        code.insertBefore(each, added);
+    private Bytes before(int at) {
         isChanged = true;
+        return code.before(at);
     }
 
-    private void after(AbstractInsnNode each, InsnList added) {
-        code.insert(each, added);
+    private Bytes behind(int next) {
         isChanged = true;
+        return code.beforeNext(next);
+    }
+
+    private Bytes hook(Bytes to, String called, String words) {
+        return to.put(Opcodes.INVOKESTATIC).putShort(constants.method(Calls.HOOKS, called, words));
+    }
+
+    private Bytes enter(Bytes to) {
+        return hook(to, "enter", OF_OBJECT_AND_SITE);
+    }
+
+    private Bytes exit(Bytes to) {
+        return hook(to, "exit", OF_OBJECT);
+    }
+
+    private Bytes site(Bytes to) {
+        return number(to, Site.add(source, name, line, 1));
+    }
+
+    private Bytes number(Bytes to, int value) {
+        return value <= Short.MAX_VALUE ? to.put(Opcodes.SIPUSH).putShort(value) : load(to, constants.number(value));
+    }
+
+    private static Bytes load(Bytes to, int constant) {
+        return constant < 256 ? to.put(Opcodes.LDC).put(constant) : to.put(LDC_W).putShort(constant);
     }
 
     // ---- Calls.
 
-    private void rewriteCall(MethodInsnNode call) {
-        if (call.getOpcode() == Opcodes.INVOKESPECIAL && call.name.equals("<init>")) {
-            endNew(call);
-            return;
-        }
-        if (call.owner.equals("java/util/Collections") && call.name.startsWith("synchronized")) noteMade(call);
+    private void rewriteCall(int opcode, int at, int next) {
+        int called = type.number(at + 1);
+        if (opcode == Opcodes.INVOKESPECIAL && type.isConstructor(called)) endNew(called, at, next);
+        else if (wanted.matters(called)) rewriteCall(new Calls.Call(opcode, type.owner(called),
+                type.nameOfMember(called), type.descriptor(called)), at, next);
+    }
+
+    private void rewriteCall(Calls.Call call, int at, int next) {
+        if (call.owner.equals("java/util/Collections") && call.name.startsWith("synchronized")) noteMade(at, next, -1);
         int depth = source.isOfJdk ? 0 : Calls.depthOfStart(call);
-        if (depth == 2) before(call, list(new InsnNode(Opcodes.DUP2), new InsnNode(Opcodes.POP), starts()));
-        else if (depth == 1) before(call, list(new InsnNode(Opcodes.DUP), starts()));
+        if (depth == 2) hook(before(at).put(Opcodes.DUP2).put(Opcodes.POP), "starts", OF_OBJECT);
+        else if (depth == 1) hook(before(at).put(Opcodes.DUP), "starts", OF_OBJECT);
         String receiver = Calls.receiver(call, wanted.hierarchy);
         if (receiver == null) return;
-        if (Calls.hasSite(call)) before(call, list(site()));
-        String words = call.desc.substring(1, call.desc.indexOf(')')) + (Calls.hasSite(call) ? "I" : "");
-        String result = call.desc.substring(call.desc.indexOf(')'));
-        code.set(call, hook(call.name, "(L" + receiver + ";" + words + result));
+        boolean hasSite = Calls.hasSite(call);
+        if (hasSite) site(before(at));
+        int end = call.descriptor.indexOf(')');
+        String words = call.descriptor.substring(1, end) + (hasSite ? "I" : "");
+        hook(code.instead(at), call.name, "(L" + receiver + ";" + words + call.descriptor.substring(end));
         isChanged = true;
     }
 
@@ -169,123 +174,83 @@ final class MethodRewriter {
      * References to methods of locks, such as `lock::unlock`, become references to what is called instead, which gets their
      * place first.
      */
-    private void rewriteReferences(InvokeDynamicInsnNode made) {
-        boolean isBound = !made.desc.startsWith("()");
-        for (int at = 0; at < made.bsmArgs.length; at++) {
-            if (!(made.bsmArgs[at] instanceof Handle)) continue;
-            Handle method = (Handle) made.bsmArgs[at];
-            boolean isCall = method.getTag() == Opcodes.H_INVOKEVIRTUAL || method.getTag() == Opcodes.H_INVOKEINTERFACE;
-            if (!isCall || !Calls.isOfLock(method.getOwner(), method.getName(), method.getDesc())) continue;
-            String object = Calls.objectOf(made.desc, method.getOwner());
+    private void rewriteReferences(int at) {
+        int call = type.number(at + 1);
+        String made = type.descriptor(call);
+        int bootstrap = type.bootstrap(type.part(call, 1));
+        for (int word = 0; word < type.number(bootstrap + 2); word++) {
+            int handle = type.number(bootstrap + 4 + 2 * word);
+            if (type.kind(handle) != ClassFile.HANDLE || !Calls.mayBeReference(type, handle)) continue;
+            int called = type.part(handle, 2);
+            String object = Calls.objectOf(made, type.owner(called));
             if (object == null) continue;
-            String descriptor = "(IL" + object + ";" + method.getDesc().substring(1);
-            made.bsmArgs[at] = new Handle(Opcodes.H_INVOKESTATIC, Calls.REFERENCES, method.getName(), descriptor,
-                    false);
-            made.desc = "(I" + made.desc.substring(1);
-            before(made, isBound ? list(site(), new InsnNode(Opcodes.SWAP)) : list(site()));
+            String words = "(IL" + object + ";" + type.descriptor(called).substring(1);
+            int instead = constants.handle(constants.method(Calls.REFERENCES, type.nameOfMember(called), words));
+            Bytes added = site(before(at));
+            if (!made.startsWith("()")) added.put(Opcodes.SWAP);
+            int changed = constants.dynamicCall(call, "(I" + made.substring(1), word, instead);
+            code.instead(at).put(Opcodes.INVOKEDYNAMIC).putShort(changed).putShort(0);
             return;
         }
     }
 
     // ---- Objects that are made.
 
-    private void endNew(MethodInsnNode call) {
-        if (!news.isEmpty() && news.peek().desc.equals(call.owner)) {
-            TypeInsnNode made = news.pop();
-            if (wanted.isTold(read, made.desc)) tell(call);
-            boolean isKept = realAfter(made) != null && realAfter(made).getOpcode() == Opcodes.DUP;
-            if (isKept && (wanted.isNoted(made.desc) || isKeptInLockedField(call))) noteMade(call);
-        } else if (method.name.equals("<init>") && news.isEmpty() && !call.owner.equals(type.name)
-                && wanted.locking.isOfItself()) {
-            after(call, list(new VarInsnNode(Opcodes.ALOAD, 0), hook("born", "(Ljava/lang/Object;)V")));
+    private void endNew(int called, int at, int next) {
+        if (!news.isEmpty() && isSameClass(type.number(news.peek() + 1), type.part(called, 1))) {
+            int made = news.pop();
+            if (wanted.isTold(method, called)) tell(called, at);
+            boolean isKept = type.opcode(made + 3) == Opcodes.DUP;
+            if (isKept && (wanted.matters(type.number(made + 1)) || isKeptInLockedField(next))) noteMade(at, next, at);
+        } else if (method.isConstructor && news.isEmpty() && wanted.locking.isOfItself()
+                && !type.owner(called).equals(type.name)) {
+            hook(behind(next).put(ALOAD_0), "born", OF_OBJECT);
         }
     }
 
-    private static AbstractInsnNode realAfter(AbstractInsnNode from) {
-        AbstractInsnNode after = from.getNext();
-        while (after != null && after.getOpcode() < 0) after = after.getNext();
-        return after;
+    private boolean isSameClass(int one, int other) {
+        return one == other || type.nameOfClass(one).equals(type.nameOfClass(other));
     }
 
-    private boolean isKeptInLockedField(AbstractInsnNode made) {
-        AbstractInsnNode next = realAfter(made);
-        if (!(next instanceof FieldInsnNode)) return false;
-        boolean isStore = next.getOpcode() == Opcodes.PUTFIELD || next.getOpcode() == Opcodes.PUTSTATIC;
-        return isStore && wanted.locking.isLocked(((FieldInsnNode) next).owner, ((FieldInsnNode) next).name);
+    /** Whether what was made goes straight into a field that is locked. */
+    private boolean isKeptInLockedField(int next) {
+        int opcode = next < method.end ? type.opcode(next) : 0;
+        return (opcode == Opcodes.PUTFIELD || opcode == Opcodes.PUTSTATIC) && wanted.matters(type.number(next + 1));
     }
 
     /** The object on the stack was made on this line. */
-    private void noteMade(AbstractInsnNode made) {
+    private void noteMade(int at, int next, int constructor) {
         int ordinal = madeOnLine.getOrDefault(line, 0) + 1;
         madeOnLine.put(line, ordinal);
-        int site = Site.add(source, method.name, line, ordinal);
-        boolean isConstructor = made.getOpcode() == Opcodes.INVOKESPECIAL;
-        LabelNode constructor = isConstructor ? new LabelNode() : null;
-        if (isConstructor) before(made, list(constructor));
+        int site = Site.add(source, name, line, ordinal);
         noted.add(new Noted(line, ordinal, constructor));
-        after(made, list(new InsnNode(Opcodes.DUP), number(site), hook("made", "(Ljava/lang/Object;I)V")));
+        hook(number(behind(next).put(Opcodes.DUP), site), "made", OF_OBJECT_AND_SITE);
     }
 
     /** A constructor looks for its caller if it isn't told where it is called, and that costs much. */
-    private void tell(MethodInsnNode call) {
-        int site = Site.addCall(source, method.name, method.desc, line, call.owner.replace('/', '.'));
-        LabelNode constructor = new LabelNode();
-        before(call, list(number(site), hook("makes", "(I)V"), constructor));
-        told.put(site, constructor);
+    private void tell(int called, int at) {
+        int site = Site.addCall(source, name, descriptor, line, type.owner(called).replace('/', '.'));
+        hook(number(before(at), site), "makes", "(I)V");
+        told.put(site, at);
     }
 
     /** Once the class is written: says where in its code the constructors of noted objects are called. */
     void tellNoted() {
-        for (Map.Entry<Integer, LabelNode> each : told.entrySet()) {
-            Site.calledAt(each.getKey(), each.getValue().getLabel().getOffset());
-        }
+        for (Map.Entry<Integer, Integer> each : told.entrySet()) Site.calledAt(each.getKey(), code.placeOf(each.getValue()));
         for (Noted each : noted) {
-            int at = each.constructor == null ? -1 : each.constructor.getLabel().getOffset();
-            OnLine.note(source, method.name, method.desc, each.line, each.ordinal, at);
+            int at = each.constructor < 0 ? -1 : code.placeOf(each.constructor);
+            OnLine.note(source, name, descriptor, each.line, each.ordinal, at);
         }
     }
 
     // ---- Synchronized methods.
 
     /**
-     * Whether the object of a method is in its place throughout. (Compilers leave it there; tools that shrink programs
-     * may not.)
-     */
-    private boolean canBeWrapped() {
-        boolean isStatic = (method.access & Opcodes.ACC_STATIC) != 0;
-        if (isStatic) return true;
-        int locals = Type.getArgumentTypes(method.desc).length + 1;
-        for (AbstractInsnNode each = code.getFirst(); each != null; each = each.getNext()) {
-            boolean isStore = each.getOpcode() >= Opcodes.ISTORE && each.getOpcode() <= Opcodes.ASTORE;
-            if (isStore && ((VarInsnNode) each).var == 0) return false;
-            if (each instanceof FrameNode) {
-                locals = localsAfter((FrameNode) each, locals);
-                if (locals == 0) return false;
-            }
-        }
-        return true;
-    }
-
-    /** How many places of the object and the like a frame has; 0 if the object isn't there. */
-    private int localsAfter(FrameNode frame, int locals) {
-        switch (frame.type) {
-            case Opcodes.F_APPEND:
-                return locals + frame.local.size();
-            case Opcodes.F_CHOP:
-                return locals - frame.local.size();
-            case Opcodes.F_FULL:
-                return frame.local.isEmpty() || !type.name.equals(frame.local.get(0)) ? 0 : frame.local.size();
-            default:
-                return locals;
-        }
-    }
-
-    /**
      * Whether a method enters its monitor by instructions, so that threads can be held back before: the virtual machine
      * does it before all of them. That the method isn't synchronized then would change the number by which Java knows the
      * version of a class that is serialised, unless the class says it itself.
      */
-    private boolean isByItself() {
+    private boolean isToEnterByItself() {
         if (!Provoke.isOn() || source.isOfJdk) return false;
         return type.hasSerialVersion || !wanted.hierarchy.maySerialize(type.superName, type.interfaces,
                 Hierarchy.MOST_ABOVE);
@@ -293,55 +258,30 @@ final class MethodRewriter {
 
     /** The method enters the monitor before its first line, and exits it before each return and on an error. */
     private void wrap() {
-        boolean isByItself = isByItself();
-        if (isByItself) method.access &= ~Opcodes.ACC_SYNCHRONIZED;
-        line = firstLine();
-        for (AbstractInsnNode each = code.getFirst(); each != null; each = each.getNext()) {
-            boolean isReturn = each.getOpcode() >= Opcodes.IRETURN && each.getOpcode() <= Opcodes.RETURN;
-            if (isReturn) before(each, exits(isByItself));
+        isByItself = isToEnterByItself();
+        line = lines.first;
+        for (int at = method.start; at < method.end; at = type.after(at, method)) {
+            boolean isReturn = type.opcode(at) >= Opcodes.IRETURN && type.opcode(at) <= Opcodes.RETURN;
+            if (isReturn) exits(before(at));
         }
-        LabelNode start = new LabelNode();
-        LabelNode end = new LabelNode();
-        InsnList entry = behindOwner(site(), isByItself ? enter() : hook("entered", "(Ljava/lang/Object;I)V"));
-        if (isByItself) {
-            LabelNode first = new LabelNode();
-            entry.insert(list(first, new LineNumberNode(line, first)));
-            entry.add(behindOwner(new InsnNode(Opcodes.MONITORENTER)));
-        }
-        entry.add(start);
-        code.insert(entry);
-        code.add(end);
-        if (type.version >= Opcodes.V1_6) {
-            Object[] locals = (method.access & Opcodes.ACC_STATIC) != 0 ? new Object[0] : new Object[] {type.name};
-            code.add(new FrameNode(Opcodes.F_FULL, locals.length, locals, 1, new Object[] {"java/lang/Throwable"}));
-        }
-        code.add(exits(isByItself));
-        code.add(new InsnNode(Opcodes.ATHROW));
-        method.tryCatchBlocks.add(new TryCatchBlockNode(start, end, end, null));
-        isChanged = true;
+        Bytes entry = site(owner(behind(method.start)));
+        if (isByItself) owner(enter(entry)).put(Opcodes.MONITORENTER);
+        else hook(entry, "entered", OF_OBJECT_AND_SITE);
+        Bytes variables = new Bytes(8).putShort(method.isStatic() ? 0 : 1);
+        if (!method.isStatic()) variables.put(Code.OBJECT).putShort(type.self);
+        code.handle(exits(new Bytes(16)).put(Opcodes.ATHROW), variables, isByItself ? line : 0);
     }
 
-    private InsnList exits(boolean isByItself) {
-        InsnList exits = behindOwner(exit());
-        if (isByItself) exits.add(behindOwner(new InsnNode(Opcodes.MONITOREXIT)));
-        return exits;
+    private Bytes exits(Bytes to) {
+        exit(owner(to));
+        return isByItself ? owner(to).put(Opcodes.MONITOREXIT) : to;
     }
 
-    /** The object whose monitor the method takes, and what is done with it. Before version 49 no constant is a class. */
-    private InsnList behindOwner(AbstractInsnNode... parts) {
-        InsnList list = new InsnList();
-        if ((method.access & Opcodes.ACC_STATIC) == 0) list.add(new VarInsnNode(Opcodes.ALOAD, 0));
-        else if (type.version >= Opcodes.V1_5) list.add(new LdcInsnNode(Type.getObjectType(type.name)));
-        else list.add(list(new LdcInsnNode(type.name.replace('/', '.')), new MethodInsnNode(Opcodes.INVOKESTATIC,
-                "java/lang/Class", "forName", "(Ljava/lang/String;)Ljava/lang/Class;", false)));
-        list.add(list(parts));
-        return list;
-    }
-
-    private int firstLine() {
-        for (AbstractInsnNode each = code.getFirst(); each != null; each = each.getNext()) {
-            if (each instanceof LineNumberNode) return ((LineNumberNode) each).line;
-        }
-        return 0;
+    /** The object whose monitor the method takes. Before version 49 no constant is a class. */
+    private Bytes owner(Bytes to) {
+        if (!method.isStatic()) return to.put(ALOAD_0);
+        if (type.version >= Opcodes.V1_5) return load(to, type.self);
+        return load(to, constants.string(type.name.replace('/', '.'))).put(Opcodes.INVOKESTATIC).putShort(
+                constants.method("java/lang/Class", "forName", "(Ljava/lang/String;)Ljava/lang/Class;"));
     }
 }

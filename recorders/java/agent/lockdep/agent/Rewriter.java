@@ -11,17 +11,8 @@ import java.security.ProtectionDomain;
 import java.util.ArrayList;
 import java.util.List;
 
-import org.objectweb.asm.ClassReader;
-import org.objectweb.asm.ClassVisitor;
-import org.objectweb.asm.ClassWriter;
-import org.objectweb.asm.MethodVisitor;
-import org.objectweb.asm.Opcodes;
-import org.objectweb.asm.tree.MethodNode;
-
 /** Rewrites the program's classes when they are loaded. One that can't be rewritten is left unchanged, and counted. */
 final class Rewriter implements ClassFileTransformer {
-    /** The newest version of class files that this ASM reads. Newer ones so far contain nothing else. */
-    private static final int NEWEST = Opcodes.V20;
     /** What the recorder itself uses, or what is below it, whatever is requested. */
     private static final String[] NEVER = {"java/lang/Object", "java/lang/Thread", "java/lang/VirtualThread",
             "java/lang/BaseVirtualThread",
@@ -31,7 +22,7 @@ final class Rewriter implements ClassFileTransformer {
         "java/lang/AbstractStringBuilder", "java/lang/String", "java/util/concurrent/ConcurrentHashMap",
         "java/util/concurrent/locks/", "java/io/FileOutputStream", "java/io/FileDescriptor", "java/lockdep/",
                 "jdk/internal/",
-        "sun/instrument/", "sun/launcher/", "lockdep/agent/", "lockdep/asm/"};
+        "sun/instrument/", "sun/launcher/", "lockdep/agent/"};
     private static final String[] ALWAYS = {"java/lang/StringBuffer"};
 
     private final String[] jdk;
@@ -101,55 +92,27 @@ final class Rewriter implements ClassFileTransformer {
         }
     }
 
+    /** The class with those of its methods rewritten that have something to rewrite; null if none has. */
     private static byte[] rewrite(ClassFile type, Source source, Wanted wanted) {
-        ClassReader reader = new ClassReader(type.version <= NEWEST ? type.bytes
-                : withVersion(type.bytes.clone(), NEWEST));
-        ClassWriter writer = new ClassWriter(reader, 0);
-        ClassRewriter rewriter = new ClassRewriter(writer, type, source, wanted);
-        reader.accept(rewriter, 0);
-        if (rewriter.changed.isEmpty()) return null;
-        byte[] written = writer.toByteArray();
-        for (MethodRewriter method : rewriter.changed) method.tellNoted();
-        return withVersion(written, type.version);
-    }
-
-    /** Takes those methods apart that may have something to rewrite. ASM copies the others as they are. */
-    private static final class ClassRewriter extends ClassVisitor {
-        final List<MethodRewriter> changed = new ArrayList<>();
-        private final ClassFile type;
-        private final Source source;
-        private final Wanted wanted;
-        private int next;
-
-        ClassRewriter(ClassWriter writer, ClassFile type, Source source, Wanted wanted) {
-            super(Opcodes.ASM9, writer);
-            this.type = type;
-            this.source = source;
-            this.wanted = wanted;
+        Constants constants = new Constants(type);
+        List<MethodRewriter> changed = new ArrayList<>();
+        Bytes methods = new Bytes(2 * type.bytes.length);
+        int copied = type.endOfConstants;
+        for (ClassFile.Method method : type.methods) {
+            if (!method.isWanted || method.end == method.start) continue;
+            MethodRewriter rewriter = new MethodRewriter(type, method, source, wanted, constants);
+            if (!rewriter.rewrite()) continue;
+            rewriter.write(methods.put(type.bytes, copied, method.begin));
+            copied = method.finish;
+            changed.add(rewriter);
         }
-
-        @Override
-        public MethodVisitor visitMethod(int access, String name, String descriptor, String signature,
-                String[] exceptions) {
-            ClassFile.Method read = type.methods[next++];
-            if (!read.isWanted) {
-                return super.visitMethod(access, name, descriptor, signature, exceptions);
-            }
-            return new MethodNode(Opcodes.ASM9, access, name, descriptor, signature, exceptions) {
-                @Override
-                public void visitEnd() {
-                    MethodRewriter rewriter = new MethodRewriter(type, read, this, source, wanted);
-                    if (instructions.size() > 0 && rewriter.rewrite()) changed.add(rewriter);
-                    accept(cv);
-                }
-            };
-        }
-    }
-
-    private static byte[] withVersion(byte[] file, int version) {
-        file[6] = (byte) (version >> 8);
-        file[7] = (byte) version;
-        return file;
+        if (changed.isEmpty()) return null;
+        methods.put(type.bytes, copied, type.endOfMethods);
+        Bytes written = new Bytes(methods.length() + type.bytes.length).put(type.bytes, 0, 8);
+        constants.write(written);
+        constants.writeAttributes(written.put(methods));
+        for (MethodRewriter method : changed) method.tellNoted();
+        return written.toArray();
     }
 
     private static String location(ProtectionDomain domain) {

@@ -13,6 +13,8 @@ final class Wanted {
             Hierarchy.LOCKS + "StampedLock"));
     private static final Words BUFFER = new Words(Set.of(Locking.BUFFER));
 
+    private static final String JAVA = "java/";
+
     /** In a method with more code than this, constructors aren't told where they are called. */
     private static final int LONGEST = 30000;
 
@@ -35,16 +37,11 @@ final class Wanted {
         constants = new boolean[type.countOfConstants()];
         boolean hasReference = false;
         for (int each = 1; each < constants.length; each++) {
-            constants[each] = matters(each);
+            constants[each] = mayMatter(each);
             hasReference |= type.kind(each) == ClassFile.HANDLE && Calls.mayBeReference(type, each);
         }
         if (hasReference) addDynamicCalls();
         for (ClassFile.Method method : type.methods) look(method);
-    }
-
-    /** Whether it is always noted where objects of a class are made. */
-    boolean isNoted(String name) {
-        return LOCKS.has(name) || hasBuffers && BUFFER.has(name);
     }
 
     /** Whether any method may be rewritten. */
@@ -55,20 +52,29 @@ final class Wanted {
         return false;
     }
 
-    private boolean matters(int constant) {
+    /** Whether an instruction with one of the class's constants may be rewritten. */
+    boolean matters(int constant) {
+        return constants[constant];
+    }
+
+    private boolean mayMatter(int constant) {
         switch (type.kind(constant)) {
             case ClassFile.CLASS:
                 int name = type.part(constant, 1);
                 return LOCKS.has(type, name) || hasBuffers && BUFFER.has(type, name);
             case ClassFile.METHOD:
             case ClassFile.METHOD_OF_INTERFACE:
-                return Calls.mayMatter(type, constant)
-                        || tells && type.isOwnConstructor(constant) && hierarchy.isOfItself(type.name);
+                return Calls.mayMatter(type, constant) || tells && isToldConstructor(constant);
             case ClassFile.FIELD: // what is made may be kept there
                 return locking.locksFields() && locking.isLocked(type.owner(constant), type.nameOfMember(constant));
             default:
                 return false;
         }
+    }
+
+    private boolean isToldConstructor(int method) {
+        int owner = type.part(type.part(method, 1), 1);
+        return type.isConstructor(method) && !type.begins(owner, JAVA) && hierarchy.isOfItself(type.text(owner));
     }
 
     private void addDynamicCalls() {
@@ -77,8 +83,9 @@ final class Wanted {
 
     private void look(ClassFile.Method method) {
         method.isWanted = method.isSynchronized() || method.isConstructor && locking.isOfItself();
+        byte[] bytes = type.bytes;
         for (int at = method.start; at < method.end && !method.isWanted; at = type.after(at, method)) {
-            int opcode = type.opcode(at);
+            int opcode = bytes[at] & 255;
             if (opcode >= Opcodes.PUTSTATIC) method.isWanted = matters(opcode, at);
         }
     }
@@ -88,11 +95,8 @@ final class Wanted {
         return opcode != Opcodes.GETFIELD && constants[type.number(at + 1)];
     }
 
-    /**
-     * Whether a constructor that is called in a method to be rewritten is told where. (In others it isn't, since to take
-     * these apart costs more, unless it is one of the class itself.)
-     */
-    boolean isTold(ClassFile.Method method, String made) {
-        return tells && method.end - method.start < LONGEST && hierarchy.isOfItself(made);
+    /** Whether a constructor that is called in a method is told where. */
+    boolean isTold(ClassFile.Method method, int called) {
+        return constants[called] && method.end - method.start < LONGEST;
     }
 }
