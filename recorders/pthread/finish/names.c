@@ -283,7 +283,7 @@ void tell_place(char *text, size_t room, const struct place *place, bool plainly
     }
 }
 
-/* A place where a lock is made. What passed it on isn't in a name, and still tells two places apart. */
+/* A place where a lock is made. What passed it on isn't in the words of a name, and still tells two places apart. */
 static void tell_made(char *text, size_t room, const struct place *place, bool plainly) {
     tell_place(text, room, place, plainly);
     size_t have = strlen(text);
@@ -448,7 +448,8 @@ static int make_key(struct arena *a, const struct raw_class *class, const struct
     tell_class(place, sizeof place, a, class, false);
     struct key key = {.at = first_word(a, class), .kind = (enum class_kind)class->kind, .path = file_path(a, class), .type = type,
                       .made = callers_of(a, class)};
-    put_class_name(&key, place, place);
+    bool is_passed_on = key.made && key.made->maker; /* then there may be others, which this run doesn't show */
+    put_class_name(&key, place, is_passed_on ? identity : place);
     int there = key_named(key.name);
     if (there != NO_KEY && strcmp(keys[there].identity, identity) != 0) {
         put_class_name(&key, place, identity);

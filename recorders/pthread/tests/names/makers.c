@@ -36,11 +36,16 @@ static void makers(void) {
     in_thread(nest_pair, other_way);
 }
 
-/* One function makes two locks for one caller, nested in each other. */
+static const char *taken; /* the case */
+
+/* One function makes two locks for one caller, nested in each other, or of which only one is taken. */
 static void pair(void) {
     pthread_mutex_t outer, inner;
     demo_pair_lock_init(&outer, &inner);
-    NEST(&outer, &inner);
+    if (strcmp(taken, "pair") == 0)
+        NEST(&outer, &inner);
+    else
+        TAKE(strcmp(taken, "pair_outer") == 0 ? &outer : &inner);
 }
 
 static void alloc(void) { TAKE(demo_lock_new()); }
@@ -86,11 +91,12 @@ int main(int argc, char **argv) {
     static const struct {
         const char *name;
         void (*does)(void);
-    } cases[] = {{"makers", makers}, {"pair", pair}, {"alloc", alloc}, {"others", others}, {"takes", takes}};
+    } cases[] = {{"makers", makers}, {"pair", pair}, {"pair_outer", pair}, {"pair_inner", pair}, {"alloc", alloc}, {"others", others}, {"takes", takes}};
+    taken = argv[argc - 1];
     for (size_t i = 0; i < sizeof cases / sizeof *cases; i++)
-        if (strcmp(cases[i].name, argv[argc - 1]) == 0)
+        if (strcmp(cases[i].name, taken) == 0)
             cases[i].does();
-    if (strcmp(argv[argc - 1], "own") == 0)
+    if (strcmp(taken, "own") == 0)
         in_thread(own_lock_init, NULL);
     return 0;
 }
