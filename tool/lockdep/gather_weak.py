@@ -13,7 +13,7 @@ from .findings import Finding, Kind
 from .gather_facts import Program
 from .gather_names import in_recording, is_lock, name_of
 from .gather_orders import LockOrder, Seen, Table, facts_in, records_of
-from .weak import MIXED, WAYS, gone_without, lines_left, together, weak_in, with_tries, written_again
+from .weak import MIXED, WAYS, Weakened, seen_in, together, weak_in, with_tries, written_again
 from .words import bytes_of
 
 KINDS = WAYS + tuple(MIXED)
@@ -76,12 +76,16 @@ def weaken(findings: list[Finding], trace: bytes, table: Table, room: str) -> No
     if not any(entry.startswith(WEAK_ORDER[:5]) for entry in table):
         return
     path = os.path.join(room, "weak.csv")
+    weakened = Weakened(findings)
     for kind in KINDS:
-        seen = [finding for finding in findings if finding.between and finding.between.kind is Kind.LOCKS]
-        weak = weak_orders(trace, table, kind) if seen else set()
+        weak = weak_orders(trace, table, kind) if any(finding.kind is Kind.LOCKS for finding in findings) else set()
         if weak:
             write_in_place(bytes_of(path), with_tries(trace, records_of(trace, weak)))
-        left = lines_left([path]) if weak else None
-        for finding in gone_without(seen, left) if left is not None else ():
+        seen = seen_in([path]) if weak else None
+        for finding in weakened.gone(kind, seen) if seen is not None else ():
             finding.between.kind = kind
             finding.json["between"]["kind"] = kind.value
+    for finding in findings:
+        if finding.kind is Kind.LOCKS and finding.place in weakened.perhaps:
+            finding.between.kind = Kind.PERHAPS
+            finding.json["between"]["kind"] = Kind.PERHAPS.value

@@ -4,6 +4,7 @@ for nobody, and the same command is asked about those: of each kind alone, and o
 seen once by a timed wait and once while a lock was new."""
 from __future__ import annotations
 
+import json
 import os
 import re
 from typing import Dict, List
@@ -11,7 +12,7 @@ from typing import Dict, List
 from .asking import BY_LOCKS
 from .checker import REFUSED, ask
 from .files import contents, write_in_place
-from .findings import Finding, Kind, findings_of, report_lines
+from .findings import Between, Finding, Kind, findings_of, report_lines
 from .folder import WEAK
 from .words import bytes_of, is_of_library, text_of
 
@@ -20,6 +21,10 @@ WAYS = (Kind.TIMED, Kind.NEW, Kind.ENDED)  # in which an acquisition is weak
 MIXED = {Kind.EITHER: (Kind.TIMED, Kind.NEW), Kind.ANY: WAYS}
 LINE = re.compile(r"^(task-[0-9]+\.csv) ([1-9][0-9]*) (%s)$" % "|".join(way.value for way in WAYS), re.MULTILINE)
 ACQUISITION = re.compile(rb"^(acq,.*,)(w|rr?)$")
+
+TYPE_CHECKING = False
+if TYPE_CHECKING:
+    from typing import Callable
 
 Records = Dict[str, List[int]]  # of traces: the numbers of their acquisitions that are of one kind
 
@@ -71,12 +76,51 @@ def written_again(traces: list[str], records: Records, room: str) -> list[str]:
     return again
 
 
-def lines_left(traces: list[str]) -> set[str] | None:
-    """The report's lines of what is seen between locks in these traces; None if that can't be said."""
+class AsRecorded:
+    """What the checker says of traces that were written again, by the records of the recording's own."""
+
+    def __init__(self, traces: list[str], again: list[str], records: Records) -> None:
+        self.files = {path: trace for path, trace in zip(again, traces) if path != trace}
+        self.tries = {(os.path.basename(name), record) for name, numbers in records.items() for record in numbers}
+
+    def read(self, raw: bytes) -> list[Finding]:
+        said = json.loads(text_of(raw))
+        self.look_through(said)
+        return findings_of(bytes_of(json.dumps(said, ensure_ascii=False)))
+
+    def look_through(self, said: object) -> None:
+        for value in said.values() if isinstance(said, dict) else said if isinstance(said, list) else ():
+            self.look_through(value)
+        if isinstance(said, dict) and "file" in said:
+            self.put_back(said)
+
+    def put_back(self, said: dict) -> None:
+        """The file, and how a lock is held that is a try only there."""
+        since = os.path.basename(said.get("since_file") or said["file"]), said.get("since")
+        if since in self.tries and str(said.get("held")).startswith("t"):
+            said["held"] = said["held"][1:]
+        for name in ("file", "since_file"):
+            if said.get(name) in self.files:
+                said[name] = self.files[said[name]]
+
+
+def seen_in(traces: list[str], read: Callable[[bytes], list[Finding]] = findings_of) -> list[Finding] | None:
+    """What is seen between single locks, or perhaps; None if that can't be said."""
     answer = ask(BY_LOCKS + traces, with_errors=True)
     if answer.status >= REFUSED:
         return None
-    return set(report_lines([finding for finding in findings_of(answer.output) if finding.kind is Kind.LOCKS]))
+    return [finding for finding in read(answer.output) if finding.kind in (Kind.LOCKS, Kind.PERHAPS)]
+
+
+def seen_without(traces: list[str], records: Records, room: str) -> list[Finding] | None:
+    """The same of a recording's traces, if these acquisitions are tries. The room is an empty folder."""
+    again = written_again(traces, records, room)
+    return seen_in(again, AsRecorded(traces, again, records).read)
+
+
+def lines_left(seen: list[Finding]) -> set[str]:
+    """The report's lines of what is seen between locks."""
+    return set(report_lines([finding for finding in seen if finding.kind is Kind.LOCKS]))
 
 
 def gone_without(findings: list[Finding], left: set[str]) -> list[Finding]:
@@ -99,11 +143,43 @@ def may_be(kind: Kind, finding: Finding) -> bool:
     return Kind.ENDED not in MIXED.get(kind, (kind,)) or finding.type == "circle" or not is_of_library(finding.keys[-1])
 
 
+class Weakened:
+    """The findings that are seen between locks, which get other verdicts by what the checker says of traces with tries."""
+
+    def __init__(self, findings: list[Finding]) -> None:
+        self.findings = findings
+        self.perhaps: dict[int, Finding] = {}  # what is still perhaps seen of a finding, by its place
+
+    def gone(self, kind: Kind, seen: list[Finding]) -> list[Finding]:
+        """Those that aren't seen between locks any more if the acquisitions of a kind are tries, nor perhaps."""
+        asked = [finding for finding in self.findings if finding.kind is Kind.LOCKS and may_be(kind, finding)]
+        others = {tuple(finding.lines): finding for finding in seen if finding.kind is Kind.PERHAPS}
+        gone = gone_without(asked, lines_left(seen))
+        self.perhaps.update((finding.place, others[tuple(finding.lines)]) for finding in gone if tuple(finding.lines) in others)
+        return [finding for finding in gone if tuple(finding.lines) not in others]
+
+    def take_perhaps(self) -> None:
+        """What no kind of acquisitions explains is perhaps seen otherwise, between locks that share a name."""
+        for finding in self.findings:
+            if finding.kind is Kind.LOCKS and finding.place in self.perhaps:
+                give(finding, self.perhaps[finding.place].between)
+
+
+def give(finding: Finding, between: Between) -> None:
+    """Gives a finding what another one was seen between."""
+    finding.between = between
+    finding.json["between"] = {"kind": between.kind.value}
+    if between.finding:
+        finding.json["between"]["finding"] = between.finding.json
+
+
 def weaken(findings: list[Finding], folder: str, traces: list[str], room: str) -> None:
     """Gives those findings their own verdicts. The room is an empty folder."""
+    weakened = Weakened(findings)
     for kind, records in by_verdict(weak_in(folder)).items():
-        seen = [finding for finding in findings if finding.between and finding.between.kind is Kind.LOCKS and may_be(kind, finding)]
-        left = lines_left(written_again(traces, records, room)) if seen and records else None
-        for finding in gone_without(seen, left) if left is not None else ():
+        is_any = records and any(finding.kind is Kind.LOCKS and may_be(kind, finding) for finding in findings)
+        seen = seen_without(traces, records, room) if is_any else None
+        for finding in weakened.gone(kind, seen) if seen is not None else ():
             finding.between.kind = kind
             finding.json["between"]["kind"] = kind.value
+    weakened.take_perhaps()
