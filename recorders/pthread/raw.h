@@ -217,8 +217,8 @@ struct raw_breach {
 };
 
 /* A thread was started or joined, in the order of all of these: a start has its number before the thread runs, a join when the thread has ended.
-   A thread is known by its pthread_t, which another one may have later. */
-enum life_kind { LIFE_NONE, LIFE_START, LIFE_JOIN };
+   A thread is known by its pthread_t, which another one may have later. A join that would have given up is a LIFE_REAP. */
+enum life_kind { LIFE_NONE, LIFE_START, LIFE_JOIN, LIFE_REAP };
 
 struct raw_life {
     uint32_t kind; /* written last; none of a start that failed */

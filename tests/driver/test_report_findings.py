@@ -3,11 +3,8 @@ import io
 import os
 import tempfile
 import unittest
-from unittest import mock
 
 from cases import between, circle, finding, findings, order
-from lockdep.asking import Asked
-from lockdep.deeper import note_nested
 from lockdep.explanation import thread_of
 from lockdep.findings import Event, Kind, findings_of
 from lockdep.groups import groups_of
@@ -70,14 +67,6 @@ class Reading(unittest.TestCase):
         one = finding(circle("a/0", between=between("nested")))
         self.assertTrue(one.is_note)
         self.assertFalse(one.is_confirmed)
-
-    def test_the_notes_of_a_run_in_words(self):
-        for kinds, words in ((["nested"], "1 type is"), (["nested-class"], "1 class is"), (["nested-class"] * 2, "2 classes are"),
-                             (["nested", "nested-class"], "1 type and 1 class are")):
-            report = Report(Recording("f", ""), Wishes(), None)
-            report.sorted = Sorted(findings([circle("a/0", between=between(kind)) for kind in kinds]))
-            self.assertEqual(report.note_words(), words + " nested in itself, which is a note: `lockdep confirm f` shows it")
-            self.assertFalse(report.has_new)
 
     def test_what_confirmed_only_counts(self):
         counted = [kind.value for kind in Kind if finding(circle("a/0", between=between(kind.value))).is_confirmed]
@@ -277,54 +266,6 @@ class Shown(unittest.TestCase):
 
     def test_a_task_is_named_with_its_trace(self):
         self.assertIn("\n  task 2 holds b/0 and waits for a/0 (task-0002)\n", self.shown([circle("a/0", "b/0", between=between("classes"))])[1])
-
-
-class NestedInItself(unittest.TestCase):
-    """A class that is nested in itself, and what is found with more callers."""
-
-    NONE, SAME = set(), {"circle a/0 EN a/0"}
-
-    def noted(self, said, deeper):
-        """A finding, when it is known what is found with so many callers."""
-        one = finding(said)
-        with mock.patch("lockdep.deeper.lines_of_depths", return_value=deeper) as asked:
-            note_nested("", Asked("", None, []), [one], "")
-        self.assertEqual(asked.call_args[0][2], (3, 6))
-        return one
-
-    def test_gone_with_a_few_more_callers_it_is_a_note(self):
-        for deeper, depth in (({6: self.NONE}, 6), ({3: self.NONE, 6: self.NONE}, 3), ({3: self.SAME, 6: self.NONE}, 6)):
-            one = self.noted(circle("a/0", between=between("classes")), deeper)
-            self.assertTrue(one.is_note)
-            self.assertEqual(one.json["between"], {"kind": "nested-class"})
-            self.assertEqual(verdict_of(one, Recorded([])), "seen only between classes, as one class nested in itself, "
-                             "and not if places are %d callers deep: a note, and no finding" % depth)
-
-    def test_what_is_there_with_more_callers_stays_a_finding(self):
-        self.assertIs(self.noted(circle("a/0", between=between("classes")), {6: self.SAME}).kind, Kind.CLASSES)
-
-    def test_what_could_not_be_asked_stays_a_finding(self):
-        self.assertIs(self.noted(circle("a/0", between=between("classes")), {}).kind, Kind.CLASSES)
-
-    def test_one_of_several_orders_that_is_left_makes_it_a_finding(self):
-        said = circle("a/0", between=between("classes"))
-        said["lines"].append("circle a/0 SR a/0")
-        said["orders"].append(order("a/0", "SR", "a/0"))
-        self.assertIs(self.noted(said, {6: self.SAME}).kind, Kind.CLASSES)
-        self.assertIs(self.noted(said, {6: self.NONE}).kind, Kind.NESTED_CLASS)
-
-    def test_no_other_verdict_is_one(self):
-        for kind in ("perhaps", "unknown", "types", "nested", "locks"):
-            self.assertEqual(self.noted(circle("a/0", between=between(kind, circle("a#1/0"))), {6: self.NONE}).kind.value, kind)
-
-    def test_no_two_classes_are_one_and_no_two_subclasses(self):
-        for keys in (("a/0", "b/0"), ("a/0", "a/1")):
-            self.assertIs(self.noted(circle(*keys, between=between("classes")), {6: self.NONE}).kind, Kind.CLASSES)
-
-    def test_it_comes_last(self):
-        kinds = [one.kind.value for one in by_importance(findings([
-            circle("%s/0" % kind, between=between(kind)) for kind in ("nested-class", "nested", "types", "classes")]))]
-        self.assertEqual(kinds, ["classes", "types", "nested", "nested-class"])
 
 
 if __name__ == "__main__":

@@ -68,22 +68,7 @@ class Sides(unittest.TestCase):
         self.assertFalse(here.is_same(diff.side_of_json(1, dict(said, locks=locks[1:]))))
 
 
-    def test_a_note_of_a_file_is_no_finding(self):
-        made = [circle("%s/0" % kind, between=between(kind)) for kind in ("classes", "nested", "nested-class")]
-        made.append(dict(circle("d/0", between=between("nested")), happened={"run": 1, "threads": []}))
-        with tempfile.NamedTemporaryFile("w", suffix=".json") as file:
-            json.dump({"lockdep": 2, "findings": made}, file)
-            file.flush()
-            self.assertEqual([side.head for side in diff.sides_of_json(file.name)], ["circle classes/0 EN classes/0", "circle d/0 EN d/0"])
-
-
 class Json(unittest.TestCase):
-    def test_notes_are_told_with_their_kind_and_level(self):
-        made = findings([circle("%s/0" % kind, between=between(kind)) for kind in ("classes", "nested", "nested-class")])
-        said = json.loads(json_of_run(Found(made, [], Sources(), Recorded([]), [])))
-        self.assertEqual(said["counts"], {"classes": 1, "nested": 1, "nested-class": 1})
-        self.assertEqual([finding["level"] for finding in said["findings"]], ["warning", "note", "note"])
-
     def test_an_occurrence_has_the_name_of_its_thread(self):
         with tempfile.TemporaryDirectory() as folder:
             with open(os.path.join(folder, "tasks"), "w", encoding="utf-8") as file:
@@ -101,9 +86,8 @@ class Json(unittest.TestCase):
 
 class Junit(unittest.TestCase):
     def test_the_passed_case_says_if_all_is_known(self):
-        known, note, other = (findings([circle("a/0", between=between(kind))]) for kind in ("classes", "nested", "nested-class"))
-        for found, blocked, name in (([], 0, "no finding"), (known, 0, "no new finding"), (note, 0, "no finding"), (other, 0, "no finding"),
-                                     ([], 1, "no new finding")):
+        known, note = (findings([circle("a/0", between=between(kind))]) for kind in ("classes", "nested"))
+        for found, blocked, name in (([], 0, "no finding"), (known, 0, "no new finding"), (note, 0, "no finding"), ([], 1, "no new finding")):
             text = junit(Found([], found, Sources(), Recorded([]), [], known_blocked=blocked))
             self.assertIn('<testcase classname="lockdep" name="%s" time="0"/>' % name, text)
 

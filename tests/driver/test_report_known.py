@@ -314,17 +314,6 @@ class OtherLocks(unittest.TestCase):
         self.assertIn("it was seen only between types, as one type nested in itself, and is now seen only between types, so that entry hides nothing",
                       self.list_then([circle("a/0", between=between("nested"))], {}, [circle("a/0", between=between("types"))])[1].stale[0])
 
-    def test_a_class_that_more_callers_tell_apart_is_listed_as_a_finding(self):
-        note = [circle("a/0", between=between("nested-class"))]
-        for now in ("classes", "types", "nested", "nested-class"):
-            text, result = self.list_then(note, {}, [circle("a/0", between=between(now))])
-            self.assertIn("\n#   seen only between classes\n", text)
-            self.assertEqual((result.new, result.stale, result.gone), ([], [], []), now)
-        for listed in ("locks", "perhaps", "unknown", "classes", "types", "nested"):
-            result = self.list_then([circle("a/0", between=between(listed, circle("a#1/0")))], {}, note)[1]
-            self.assertEqual((result.new, result.stale, result.gone), ([], [], []), listed)
-        self.assertEqual(len(self.list_then(note, {}, [circle("a/0", between=between("locks", circle("a#1/0")))])[1].stale), 1)
-
     def test_what_is_mixed_is_as_strong_as_its_strongest_part(self):
         inner, any = circle("a#1/0", "b#1/0"), "timed-ended-thread-or-new-lock"
         for listed, now, is_new in (("timed", "timed-or-new-lock", False), ("timed-or-new-lock", "timed", False),

@@ -14,7 +14,7 @@ if TYPE_CHECKING:
     from .verdict import Recorded
 
 MOST_STEPS = 20_000_000  # lines that are looked at for one recording; beyond that nothing is said
-VERBS = ("starts", "joins")
+VERBS = ("starts", "joins", "reaps")  # who reaps a thread joins it by a call that would have given up
 
 
 class Lives:
@@ -41,7 +41,7 @@ class Lives:
         knowing: set[str] = set()
         later: set[str] = set()
         for who, verb, other in self.lines:
-            if verb == "joins" and (other == ended or other in knowing):
+            if verb != "starts" and (other == ended or other in knowing):
                 knowing.add(who)
             elif verb == "starts" and who in knowing:
                 knowing.add(other)
@@ -49,7 +49,7 @@ class Lives:
         return later
 
     def joins_after(self, ended: str) -> set[tuple[str, str]]:
-        """Who joined which thread knowing that this one had been joined."""
+        """Who joined which thread knowing that this one had been joined, all by calls that wait as long as it takes."""
         if ended not in self.joined:
             is_much = (len(self.joined) + 1) * len(self.lines) > MOST_STEPS
             self.joined[ended] = set() if is_much else self.look_at_joins_after(ended)

@@ -44,7 +44,7 @@ class Asked:
 
     @property
     def has_findings(self) -> bool:
-        """Whether something was found, also a note of a type or class that is nested in itself. Without findings the list is empty."""
+        """Whether something was found, also a note of a type that is nested in itself. Without findings the list is empty."""
         of_signals = bool(self.signals and self.signals.findings)
         return of_signals or self.answer.status == 1 or b'{"type":' in self.answer.output
 
@@ -77,11 +77,6 @@ class Asked:
         if os.path.exists(os.path.join(self.folder, PROVOKED)):
             from .happened import take_happened
             take_happened(findings, self.folder)
-        if any(finding.is_class_in_itself for finding in findings):
-            from .deeper import note_nested
-            from .room import room_for
-            with room_for(self.folder) as room:
-                note_nested(self.folder, self, findings, room)
         return by_importance(findings)
 
     def weigh(self, findings: list) -> None:

@@ -9,12 +9,11 @@ import subprocess
 from .asking import BY_CLASSES, BY_LOCKS, OBJECTS, Asked, traces_in
 from .checker import HOME, REFUSED, ask
 from .files import contents
-from .findings import Finding, Kind, findings_of, report_lines
+from .findings import Finding, findings_of, report_lines
 from .verdict import WITH_DEPTH, unquoted
 from .words import class_of_lock, text_of, type_of_class
 
 DEPTHS = (3, 6, 16)  # callers
-DEPTHS_OF_NOTES = DEPTHS[:2]  # with which a class that is nested in itself may be gone, so that it is a note
 DEFAULT_FRAMES = 3
 NAME = re.compile(r'^(acq|rel),("(?:[^"]|"")*"|[^,\r\n]*),', re.MULTILINE)
 OTHER_RECORDER = re.compile("^recorder (?!pthread$)", re.MULTILINE)  # in the settings of a recording: other recorders note no callers of locks
@@ -48,13 +47,13 @@ class Remade:
         more = {"LOCKDEP_WRAPPERS": wrappers} if not os.environ.get("LOCKDEP_WRAPPERS") and os.path.exists(wrappers) else {}
         return dict(os.environ, **more)
 
-    def make(self, finish: str, depth: int, has_same_arrays: bool) -> str | None:
-        """Makes the traces with so many callers, in which the same memory is arrays if that is wished for. Returns their folder."""
-        folder = os.path.join(self.room, "%d-%d" % (depth, has_same_arrays))
+    def make(self, finish: str, depth: int) -> str | None:
+        """Makes the traces with so many callers. Returns their folder."""
+        folder = os.path.join(self.room, str(depth))
         os.mkdir(folder)
         os.symlink("../raw", os.path.join(folder, "raw"))
-        words = [finish, folder, self.version, str(depth), str(self.frames if has_same_arrays else depth)]
-        done = subprocess.run(words, env=self.environment(), stdin=subprocess.DEVNULL, stdout=subprocess.DEVNULL, stderr=subprocess.DEVNULL)
+        done = subprocess.run([finish, folder, self.version, str(depth)], env=self.environment(), stdin=subprocess.DEVNULL,
+                              stdout=subprocess.DEVNULL, stderr=subprocess.DEVNULL)
         return folder if done.returncode == 0 else None
 
 
@@ -116,41 +115,16 @@ def lines_at(asked: Asked, deeper: str) -> set[str] | None:
     return {renamed(line, names) for line in report_lines(findings_of(answer.output))}
 
 
-def lines_of_depths(folder: str, asked: Asked, depths: tuple[int, ...], room: str, has_same_arrays: bool = False) -> dict[int, set[str]]:
-    """For each of these numbers of callers the lines of what is found with so many, where that can be said. The room is an empty folder."""
-    remade = Remade(folder, room)
-    finish = finish_program() if remade.is_there else None
-    found: dict[int, set[str]] = {}
-    for depth in depths if finish else ():
-        deeper = remade.make(finish, depth, has_same_arrays) if depth > remade.frames else None
-        lines = lines_at(asked, deeper) if deeper else None
-        if lines is not None:
-            found[depth] = lines
-    return found
-
-
 def depths_of(folder: str, asked: Asked, findings: list[Finding], room: str) -> dict[int, int]:
     """For each finding that is gone with more callers, the least number of them. The room is an empty folder."""
     doubtful = [finding for finding in findings if finding.kind in WITH_DEPTH and finding.type == "circle"]
-    found = lines_of_depths(folder, asked, DEPTHS, room) if doubtful else {}
+    remade = Remade(folder, room) if doubtful else None
+    finish = finish_program() if remade and remade.is_there else None
     depths: dict[int, int] = {}
-    for depth, lines in found.items():
-        for finding in doubtful:
+    for depth in DEPTHS if finish else ():
+        deeper = remade.make(finish, depth) if depth > remade.frames else None
+        lines = lines_at(asked, deeper) if deeper else None
+        for finding in doubtful if lines is not None else ():
             if not set(finding.lines) <= lines:
                 depths.setdefault(finding.number, depth)
     return depths
-
-
-# ---- A class that is nested in itself.
-
-
-def note_nested(folder: str, asked: Asked, findings: list[Finding], room: str) -> None:
-    """Makes a note of each class that is nested in itself, if all of that is gone with a few more callers: what was nested are locks
-    that one function made for different callers, as locks of one type that were made in different places. What is an array stays one,
-    so these aren't its elements. The room is an empty folder."""
-    found = lines_of_depths(folder, asked, DEPTHS_OF_NOTES, room, has_same_arrays=True)
-    for finding in findings:
-        gone = [depth for depth, lines in found.items() if lines.isdisjoint(finding.lines)]
-        if gone and finding.is_class_in_itself:
-            finding.between.kind, finding.between.depth = Kind.NESTED_CLASS, min(gone)
-            finding.json["between"]["kind"] = Kind.NESTED_CLASS.value

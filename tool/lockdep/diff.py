@@ -76,7 +76,7 @@ def side_of_json(number: int, said: dict) -> Side:
 
 
 def is_note(number: int, said: dict) -> bool:
-    """Whether a finding of a file is a note, as those of a folder are that have a type or class nested in itself."""
+    """Whether a finding of a file is a note, as those of a folder are that have a type nested in itself."""
     return finding_of(number, said).is_note and "happened" not in said
 
 

@@ -33,11 +33,6 @@ class Kind(Enum):
     NEW = "new-lock"  # between locks, and only while a lock was new; nor is this one
     TYPES = "types"
     NESTED = "nested"
-    NESTED_CLASS = "nested-class"  # between classes of a recording that few callers name, and gone with more: no kind of the checker's either
-    NEVER = "never"  # as BEFORE, also between classes and types; nor is this one
-
-
-NOTES = (Kind.NESTED, Kind.NESTED_CLASS, Kind.NEVER)
 
 
 @dataclass(frozen=True)
@@ -100,7 +95,6 @@ class Between:
     kind: Kind
     finding: Finding | None = None
     reason: str = ""
-    depth: int = 0  # of a class nested in itself: with how many callers that is gone
 
 
 @dataclass
@@ -150,14 +144,8 @@ class Finding:
 
     @property
     def is_note(self) -> bool:
-        """A type nested in itself is a note, and no finding, and so are a class of which a few more callers make several, and a cycle that can't be."""
-        return self.kind in NOTES
-
-    @property
-    def is_class_in_itself(self) -> bool:
-        """Whether all that was seen is that a class is nested in itself."""
-        is_of_one_key = self.type == "circle" and bool(self.orders) and all(order.start == order.end for order in self.orders)
-        return is_of_one_key and self.kind is Kind.CLASSES
+        """A type nested in itself is a note, and no finding."""
+        return self.kind is Kind.NESTED
 
     @property
     def is_confirmed(self) -> bool:

@@ -62,7 +62,7 @@ class Found:
 
     @property
     def findings(self) -> list[Finding]:
-        """The new findings, without notes of types and classes that are nested in themselves."""
+        """The new findings, without notes of types that are nested in themselves."""
         return [finding for finding in self.new if not finding.is_note]
 
     @property

@@ -13,7 +13,7 @@ from .cplusplus import without_parameters
 from .findings import Finding, by_line, handlers_of, report_lines
 from .sources import Sources, keys_of
 from .stale import Judge
-from .suppressions import TEXT, VERDICT, Entry, entries_of, excused, pattern_text, today
+from .suppressions import EXCUSED, KINDS, TEXT, VERDICT, Entry, entries_of, pattern_text, today
 from .symbols import Frame
 from .taking_part import TakingPart
 from .where_made import Place, place_now
@@ -150,7 +150,7 @@ class Comments:
 
     def of(self, line: str) -> list[str]:
         kinds = [finding.kind for finding in self.findings.get(line, ()) if finding.kind]
-        verdict = ["#   " + excused(kinds)] if kinds else []
+        verdict = ["#   " + EXCUSED[min(kinds, key=KINDS.index)]] if kinds else []
         now = [(made.name, place_now(made, self.taking.sources, shown=True)) for made in self.taking.made(line)]
         return verdict + [comment for name, place in now if place for comment in comments_of(name, place)]
 

@@ -108,8 +108,8 @@ RUN = Command("run", "record a command, check its traces, and explain what was f
            "Exit with this status, from 1 to 255, if something was found that isn't known, or if a thread waited for a lock when its process ended in "
            "another way than by `exit`"),
     Option("--confirmed-only", None, "only for what was seen between single locks",
-           "Only for what was seen between single locks, or isn't known: a finding of which `seen only` (between classes, by timed waits, where the "
-           "joined thread had ended, while a lock was new) or `perhaps seen between locks` is said is printed, and doesn't change the status"),
+           "Only for what was seen between single locks, or isn't known: a finding of which `seen only` (between classes or types, by timed waits, where "
+           "the joined thread had ended or another one had been joined before, while a lock was new) or `perhaps seen between locks` is said is printed, and doesn't change the status"),
 ])
 
 RECORD = Command("record", "record a command", "Runs a command, records the locks of its threads, and makes a trace of each thread.",

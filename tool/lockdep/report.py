@@ -114,7 +114,7 @@ class Report:
 
     @property
     def new(self) -> list:
-        """The new findings, without the notes of types and classes that are nested in themselves."""
+        """The new findings, without the notes of types that are nested in themselves."""
         return [finding for finding in self.sorted.new if not finding.is_note] if self.sorted else []
 
     @property
@@ -281,14 +281,8 @@ class Report:
             self.say_end()
 
     def note_words(self) -> str:
-        from .findings import Kind
-        in_turn, of_classes = (sum(note.kind is kind for note in self.notes) for kind in (Kind.NEVER, Kind.NESTED_CLASS))
-        of_types = len(self.notes) - in_turn - of_classes
-        nested = [counted(*number) for number in ((of_types, "type", "types"), (of_classes, "class", "classes")) if number[0]]
-        verb = "is" if of_types + of_classes == 1 else "are"
-        kinds = ["%s %s nested in itself" % (" and ".join(nested), verb)] if nested else []
-        kinds += ["%s of threads that were joined one before another" % counted(in_turn, "cycle is", "cycles are")] if in_turn else []
-        return "%s, which is a note: `lockdep confirm %s` shows it" % ("; ".join(kinds), self.recording.folder)
+        return "%s nested in itself, which is a note: `lockdep confirm %s` shows it" % (
+            counted(len(self.notes), "type is", "types are"), self.recording.folder)
 
     def say_end(self) -> None:
         if self.recording.status:

@@ -8,7 +8,7 @@ from collections import Counter
 
 from .findings import Finding, by_line, handlers_of
 from .places import Made
-from .suppressions import EXCUSED, Entry, excused, today
+from .suppressions import EXCUSED, KINDS, Entry, today
 from .taking_part import TakingPart
 from .where_made import Place, place_now
 from .words import type_of_class
@@ -108,7 +108,7 @@ class Judge:
         kinds = [finding.kind for finding in self.findings[entry.line] if not entry.excuses(finding.kind)]
         if not kinds:
             return []
-        return ["it was %s, and is now %s" % (EXCUSED[entry.kind], excused(kinds))]
+        return ["it was %s, and is now %s" % (EXCUSED[entry.kind], EXCUSED[min(kinds, key=KINDS.index)])]
 
 
 def listed_places(entry: Entry) -> dict[str, list[Place]]:

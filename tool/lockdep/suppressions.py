@@ -48,26 +48,17 @@ EXCUSED = {
     Kind.NEW: "seen only while a lock was new",
     Kind.TYPES: "seen only between types",
     Kind.NESTED: "seen only between types, as one type nested in itself",
-    Kind.NEVER: "seen only where another thread of the cycle had been joined before, as a note",
 }
 KINDS = list(EXCUSED)  # the strongest first
-STRONGEST = {Kind.ANY: Kind.ENDED, Kind.EITHER: Kind.TIMED, Kind.NESTED_CLASS: Kind.NESTED}
-# A list has a note that more callers make as what it is with fewer: whether it is one can't always be asked.
-LISTED_AS = {Kind.NESTED_CLASS: Kind.CLASSES}
+STRONGEST = {Kind.ANY: Kind.ENDED, Kind.EITHER: Kind.TIMED}
 VERDICT = {"#   " + words: kind for kind, words in EXCUSED.items()}
 # As a pattern has it, in one word. One that hides what was made to happen says no verdict.
 UP_TO = {words.replace(",", "").replace(" ", "-"): kind for kind, words in EXCUSED.items() if kind is not Kind.HAPPENED}
 
 
 def strength(kind: Kind) -> int:
-    """The place of a verdict among all, from the strongest on. A mixed one is as strong as the strongest of which it is mixed, and a note
-    as weak as any."""
+    """The place of a verdict among all, from the strongest on. A mixed one is as strong as the strongest of which it is mixed."""
     return KINDS.index(STRONGEST.get(kind, kind))
-
-
-def excused(kinds: list[Kind]) -> str:
-    """The strongest of some verdicts, as a list has it."""
-    return EXCUSED[min((LISTED_AS.get(kind, kind) for kind in kinds), key=KINDS.index)]
 
 
 @dataclass

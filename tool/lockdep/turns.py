@@ -1,20 +1,18 @@
-"""Which cycles can't be, since a thread of them is joined only after another one had been joined. A joined thread is a lock that it holds from its
-start to its end, and nobody joins it again: when who joins it knew that another thread had ended, that one's orders are over. What was taken in these
-joins and what that thread took are therefore never waited for at once. The checker is asked about the traces with the first as tries, and with the second:
-a cycle that is in neither can't be."""
+"""Which cycles were seen only where a thread was joined after another one of them had been. A joined thread is a lock that it has from its start to its
+end, and nobody joins it again: when who joins it knew that another thread had ended, that one's orders were over. What was taken in these joins and what
+that thread took were therefore never waited for at once. The checker is asked about the traces with the first as tries, and with the second: a cycle that
+is in neither needs both."""
 from __future__ import annotations
 
 import csv
 import os
 
 from .apart import lives_in, thread_of
-from .asking import BY_LOCKS
-from .checker import REFUSED, ask
 from .files import contents
-from .findings import Finding, Kind, Order, findings_of
+from .findings import Between, Finding, Kind, Order
 from .joins import STARTED
 from .places import classes_in
-from .weak import Records, gone_without, written_again
+from .weak import Records, give, gone_without, lines_left, seen_without
 from .words import class_of_lock, name_in, stands_for_several, text_of
 
 TYPE_CHECKING = False
@@ -26,7 +24,6 @@ if TYPE_CHECKING:
 MOST_ASKED = 24  # times that the checker is asked about one recording; if that isn't enough, nothing is said
 EVERY = 0  # all records of a trace
 FIRST = 2  # the record with which a thread takes itself
-BETWEEN_LOCKS = (Kind.LOCKS, Kind.ENDED, Kind.ANY, Kind.TIMED, Kind.EITHER, Kind.NEW)
 
 
 class AskedTooOften(Exception):
@@ -88,7 +85,7 @@ class Turns:
     def __init__(self, traces: list[str], joins: Joins, room: str) -> None:
         self.traces, self.joins, self.room = traces, joins, room
         self.answers: dict[Part, list[Finding]] = {}
-        self.said: dict[tuple[Part, bool], set[str]] = {}
+        self.said: dict[Part, list[Finding]] = {}
 
     def records(self, part: Part) -> Records:
         """The acquisitions of a part, by trace."""
@@ -105,54 +102,54 @@ class Turns:
         if part not in self.answers:
             room = os.path.join(self.room, "turn-%d" % len(self.answers))
             os.mkdir(room)
-            answer = ask(BY_LOCKS + written_again(self.traces, self.records(part), room), with_errors=True)
-            if answer.status >= REFUSED or len(self.answers) == MOST_ASKED:
+            seen = seen_without(self.traces, self.records(part), room) if len(self.answers) < MOST_ASKED else None
+            if seen is None:
                 raise AskedTooOften
-            self.answers[part] = findings_of(answer.output)
+            self.answers[part] = seen
         return self.answers[part]
 
-    def possible(self, of_locks: bool, part: Part = frozenset()) -> set[str]:
-        """The lines of the cycles that can be if what is in the part is left out: between single locks, or at all."""
-        key = part, of_locks
-        if key not in self.said:
-            self.said[key] = set()
+    def possible(self, part: Part = frozenset()) -> list[Finding]:
+        """The cycles that are seen between locks, or perhaps, and need no such two, if what is in the part is left out. Of each the locks are
+        those of such a cycle."""
+        if part not in self.said:
+            self.said[part] = []
             for finding in self.ask(part):
-                self.said[key] |= self.possible_of(finding, of_locks, part)
-        return self.said[key]
+                self.said[part] += self.possible_of(finding, part)
+        return self.said[part]
 
-    def possible_of(self, finding: Finding, of_locks: bool, part: Part) -> set[str]:
-        between = finding.between
-        if finding.type != "circle" or finding.is_note or of_locks and not (between and between.kind is Kind.LOCKS and between.finding):
-            return set()
+    def possible_of(self, finding: Finding, part: Part) -> list[Finding]:
+        if finding.type != "circle":
+            return []
+        cut = self.joins.cut_of(finding.between.finding.orders)
+        if not cut:
+            return [finding]
         lines = set(finding.lines)
-        cut = self.joins.cut_of(between.finding.orders if of_locks else finding.orders)
-        if not cut or lines <= self.said[part, of_locks]:
-            return lines
-        return lines & set().union(*(self.possible(of_locks, part | half) for half in cut))
+        return [other for half in cut for other in self.possible(part | half) if lines.intersection(other.lines)]
 
 
 def has_join(finding: Finding, joins: Joins) -> bool:
     """Whether a cycle that was seen between single locks has a joined thread."""
-    between = finding.between
-    is_cycle = finding.type == "circle" and between and between.finding and between.kind in BETWEEN_LOCKS
-    return bool(is_cycle) and any(class_of_lock(name_in(key)) in joins.started for key in between.finding.keys)
+    is_cycle = finding.type == "circle" and finding.kind is Kind.LOCKS
+    return is_cycle and any(class_of_lock(name_in(key)) in joins.started for key in finding.between.finding.keys)
 
 
 def find_turns(findings: list[Finding], folder: str, traces: list[str], room: str) -> None:
-    """Gives the findings that can't be their own verdicts. The room is an empty folder."""
+    """Gives these findings their own verdict, and the others locks that show no such cycle. The room is an empty folder."""
     joins = Joins(folder)
     seen = [finding for finding in findings if has_join(finding, joins)]
     if not seen:
         return
     joins.read(traces)
-    turns = Turns(traces, joins, room)
     try:
-        gone = gone_without(seen, turns.possible(of_locks=True))
-        never = gone_without(gone, turns.possible(of_locks=False)) if gone else []
+        possible = Turns(traces, joins, room).possible()
     except AskedTooOften:
         return
-    for finding in gone:
-        is_never = any(finding is each for each in never)
-        if is_never or finding.between.kind is Kind.LOCKS:
-            finding.between.kind = Kind.NEVER if is_never else Kind.BEFORE
-            finding.json["between"]["kind"] = finding.between.kind.value
+    gone = {finding.place for finding in gone_without(seen, lines_left(possible))}
+    others = {(tuple(finding.lines), finding.kind): finding.between for finding in reversed(possible)}
+    for finding in seen:
+        is_gone = finding.place in gone
+        other = others.get((tuple(finding.lines), Kind.PERHAPS if is_gone else Kind.LOCKS))
+        if other:
+            give(finding, other)
+        elif is_gone:
+            give(finding, Between(Kind.BEFORE, finding.between.finding))

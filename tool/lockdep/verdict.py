@@ -22,7 +22,6 @@ ONLY = {
     Kind.CLASSES: ("seen only between classes; no two locks were taken both ways", "seen only between classes, not between single locks"),
     Kind.TYPES: ("seen only between types, not between classes",) * 2,
     Kind.NESTED: ("seen only between types, as one type nested in itself: a note, and no finding",) * 2,
-    Kind.NEVER: ("seen only where another thread of the cycle had been joined before: a note, and no finding",) * 2,
 }
 BETWEEN_LOCKS = {
     Kind.LOCKS: "seen between locks",
@@ -33,7 +32,6 @@ BETWEEN_LOCKS = {
     Kind.EITHER: "seen only by timed waits or while a lock was new",
     Kind.NEW: "seen only while a lock was new",
 }
-OF_ONE_CLASS = "seen only between classes, as one class nested in itself, and not if places are %d callers deep: a note, and no finding"
 LATE = "seen only when the signal's thread had taken its last lock"
 HAPPENED = "happened in run %d of `lockdep provoke`"
 TOO_MANY = "more than 256 keys lead to one another"
@@ -225,8 +223,6 @@ def words_seen(finding: Finding, recorded: Recorded) -> str:
     inner = between.finding
     if between.kind in ONLY:
         words = ONLY[between.kind][finding.type != "circle"]
-    elif between.kind is Kind.NESTED_CLASS:
-        words = OF_ONE_CLASS % between.depth
     elif between.kind is Kind.UNKNOWN or not inner:
         words = unknown_words(between.reason)
     elif between.kind in BETWEEN_LOCKS:

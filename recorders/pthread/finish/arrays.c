@@ -43,9 +43,7 @@ static uint64_t number_of(const struct place *place, uint32_t most) {
     return number;
 }
 
-int frames_of_arrays;
-
-static uint64_t site_of(const struct place *place) { return number_of(place, (uint32_t)frames_of_arrays); }
+static uint64_t site_of(const struct place *place) { return number_of(place, (uint32_t)frames); }
 
 /* ---- All offsets. */
 

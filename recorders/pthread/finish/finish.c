@@ -1,6 +1,6 @@
 /* Makes traces of what the preload library left in FOLDER/raw:
 
-     finish FOLDER VERSION [FRAMES [OF_ARRAYS]]
+     finish FOLDER VERSION [FRAMES]
 
    FOLDER/task-NNNN.csv        the trace of one thread, in version 1 or 2 of the format
    FOLDER/task-NNNN.csv.places for each of its records, where the call came from
@@ -14,7 +14,7 @@
    FOLDER/signals              what signals' handlers may interrupt, if the program has any: a set of traces for each one that took a lock
    FOLDER/SUMMARY              what was recorded, and what was left out
 
-   A place is named by FRAMES callers, 3 if it isn't given; and by OF_ARRAYS, or as many, where it is to be seen that arrays are allocated. */
+   A place is named by FRAMES callers, 3 if it isn't given. */
 #include "finish.h"
 
 #include <errno.h>
@@ -254,9 +254,8 @@ static int number_of(const char *text, int most) {
 int main(int argc, char **argv) {
     int version = argc > 2 ? number_of(argv[2], 2) : 0;
     frames = argc > 3 ? number_of(argv[3], RAW_FRAMES) : DEFAULT_FRAMES;
-    frames_of_arrays = argc > 4 ? number_of(argv[4], RAW_FRAMES) : frames;
-    if (argc < 3 || argc > 5 || !version || !frames || !frames_of_arrays) {
-        fprintf(stderr, "usage: finish FOLDER VERSION [FRAMES [OF_ARRAYS]], with VERSION 1 or 2, FRAMES and OF_ARRAYS 1 to %d\n", RAW_FRAMES);
+    if (argc < 3 || argc > 4 || !version || !frames) {
+        fprintf(stderr, "usage: finish FOLDER VERSION [FRAMES], with VERSION 1 or 2 and FRAMES 1 to %d\n", RAW_FRAMES);
         return 2;
     }
     char recorder[4096];

@@ -104,8 +104,6 @@ uint32_t class_of(const struct arena *a, uint32_t object);
 
 /* ---- arrays.c */
 
-extern int frames_of_arrays; /* by so many callers a place is told in which arrays are allocated: mostly as many as name a class */
-
 void find_arrays(void);
 bool in_element(struct arena *a, const struct raw_class *class, uint64_t *told);
 

@@ -132,19 +132,21 @@ static void tell_thread(FILE *file, uint32_t thread, uint64_t before) {
         fprintf(file, "other-%lu", (unsigned long)(before + thread));
 }
 
+static const char *const verbs[] = {[LIFE_START] = " starts ", [LIFE_JOIN] = " joins ", [LIFE_REAP] = " reaps "};
+
 static void write_life(FILE *file, uint32_t number, uint64_t before) {
     const struct life *l = &lives[number];
     if (!l->by || !l->of)
         return;
     tell_thread(file, l->by, before);
-    fputs(raw_of(number)->kind == LIFE_START ? " starts " : " joins ", file);
+    fputs(verbs[raw_of(number)->kind], file);
     tell_thread(file, l->of, before);
     putc('\n', file);
 }
 
 static bool has_joins(void) {
     for (uint32_t number = 1; number <= life_count; number++)
-        if (raw_of(number)->kind == LIFE_JOIN)
+        if (raw_of(number)->kind > LIFE_START)
             return true;
     return false;
 }

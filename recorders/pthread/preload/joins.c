@@ -32,10 +32,10 @@ static void note_life(uint32_t number, enum life_kind kind, pthread_t thread, ui
 /* The number of a start that comes now; 0 if it isn't noted. */
 uint32_t begin_start(void) { return is_noting() ? take_part(RAW_LIVES) : 0; }
 
-static void note_join(pthread_t thread, uint32_t known, int error) {
+static void note_join(pthread_t thread, uint32_t known, enum life_kind kind, int error) {
     uint32_t number = error || !is_noting() ? 0 : take_part(RAW_LIVES);
     if (number)
-        note_life(number, LIFE_JOIN, thread, known);
+        note_life(number, kind, thread, known);
 }
 
 /* ---- Threads as locks. */
@@ -194,7 +194,7 @@ static void end_join(pthread_t thread, uint8_t weak, bool is_wish, enum ending e
         bool is_wish = begin_join(thread, weak, HERE);                                                                 \
         enum ending ending = is_wish ? look_at_end(thread) : GOES_ON;                                                  \
         int answer = REAL(name) arguments;                                                                             \
-        note_join(thread, known, answer);                                                                              \
+        note_join(thread, known, (weak) ? LIFE_REAP : LIFE_JOIN, answer);                                              \
         end_join(thread, weak, is_wish, ending, answer == 0, HERE);                                                    \
         return answer;                                                                                                 \
     }
@@ -211,7 +211,7 @@ JOINING(thrd_join, 0, (thrd_t thread, int *value), (thread, value))
 EXPORT int pthread_tryjoin_np(pthread_t thread, void **value) {
     uint32_t known = lives_so_far();
     int answer = REAL(pthread_tryjoin_np)(thread, value);
-    note_join(thread, known, answer);
+    note_join(thread, known, LIFE_REAP, answer);
     return answer;
 }
 

@@ -1,10 +1,12 @@
 /* A thread that is joined with a lock held, in a cycle with the order of another thread, which differs by when that other one is joined:
-     never   before, without a lock: a note
-     listed  before, and further threads are joined with the lock held before and after: a note
-     told    before, by a thread that was joined itself: a note
+     before  before, without a lock
+     listed  before, and further threads are joined with the lock held before and after
+     told    before, by a thread that was joined itself
+     once    before, but a thread of the same function was joined with the lock held before that
      later   after: a cycle
+     tried   before, by a call that would have given up: a cycle
      meets   before, but a further thread takes its locks in the same order until the end: a cycle
-     once    before, but a thread of the same function was joined with the lock held before that: a cycle of classes */
+     other   before, and a further thread with another lock is joined at the end: a cycle through that one */
 #include "common.h"
 #include "asleep.h"
 
@@ -15,10 +17,13 @@ static int is_joined; /* the thread that takes `sessions`, which goes on until t
 static int is(const char *name) { return strcmp(way, name) == 0; }
 
 THREAD(client, NEST(&sessions, &list))
+THREAD(keeper, NEST(&own, &list))
 THREAD(lister, TAKE(&own))
 
 static void *manager(void *takes) {
     TAKE(takes ? &sessions : &own);
+    if (is("other"))
+        TAKE(&own);
     while (takes && !__atomic_load_n(&is_joined, __ATOMIC_SEQ_CST))
         usleep(1000);
     if (takes)
@@ -44,9 +49,11 @@ static void *joins(void *thread) {
 }
 
 static void join_client(pthread_t client) {
+    while (is("tried") && pthread_tryjoin_np(client, NULL) != 0)
+        usleep(1000);
     if (is("told"))
         in_thread(joins, &client);
-    else
+    else if (!is("tried"))
         pthread_join(client, NULL);
 }
 
@@ -59,7 +66,7 @@ int main(int argc, char **argv) {
         join_client(first);
     if (is("listed"))
         join_under_list(started(lister, NULL));
-    pthread_t third = is("meets") ? started(client, NULL) : 0;
+    pthread_t third = is("meets") || is("other") ? started(is("meets") ? client : keeper, NULL) : 0;
     __atomic_store_n(&is_joined, 1, __ATOMIC_SEQ_CST);
     join_under_list(second);
     if (is("listed"))
