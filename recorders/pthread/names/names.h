@@ -146,6 +146,7 @@ extern bool is_union_unclear; /* set if several members of a union have locks th
 bool is_lock_class(Dwarf_Die type); /* it is a lock itself, as a class Mutex */
 const char *text_of(const struct path *path);      /* NULL: no class on the path gives a name */
 bool is_called_lock(const char *name);
+const char *member_without_class(const struct path *path);
 const char *weak_text_of(const struct path *path); /* a class that is a lock itself, without a name that says so */
 
 /* ---- index.c: what a module has. */
@@ -232,6 +233,7 @@ enum rule {
 struct found {
     enum rule rule;
     const char *text;
+    const char *member; /* of a lock without a text, in a structure without a name: how a variable leads to it, such as `.in`; else NULL */
 };
 
 /* variables.c: by what is in the module or in a frame, wherever it was met. */

@@ -18,6 +18,7 @@ bool has_lock(Dwarf_Die type, uint64_t at, struct found *found, bool *is_bare) {
     if (look->lock - at >= size || !(is_whole ? find_lock_in_whole : find_lock)(type, look->lock - at, &path))
         return false;
     found->text = text_of(&path);
+    found->member = found->text ? NULL : member_without_class(&path);
     if (!found->text && !weak_text)
         weak_text = weak_text_of(&path);
     *is_bare = !found->text;
@@ -76,11 +77,11 @@ static bool points_to_it(struct variable_here *v, struct found *found) {
 }
 
 /* A bare lock is a variable of the function, if that is the program's. */
-static void note_bare(struct variable_here *v, struct scopes *s, int scope, struct found *bare) {
+static void note_bare(struct variable_here *v, struct scopes *s, int scope, const char *member, struct found *bare) {
     const char *function = function_name(s->list, s->count, scope);
     if (bare->rule || !v->name || is_of_library(function))
         return;
-    bare->text = written("%s:%s%s", function, v->name, dwarf_tag(&v->peeled) == DW_TAG_array_type ? "[]" : "");
+    bare->text = written("%s:%s%s%s", function, v->name, dwarf_tag(&v->peeled) == DW_TAG_array_type ? "[]" : "", member ? member : "");
     bare->rule = RULE_LOCAL;
 }
 
@@ -95,7 +96,7 @@ static bool is_it(struct variable_here *v, struct scopes *s, int scope, struct f
         return true;
     }
     if (is_bare)
-        note_bare(v, s, scope, bare);
+        note_bare(v, s, scope, found->member, bare);
     return false;
 }
 
@@ -118,19 +119,29 @@ struct round {
     int number, frame;
     uint64_t address;
     struct found *found, *bare;
+    bool *is_unclear; /* variables of one scope don't agree: one of them points to what was there before */
 };
+
+/* What one variable says. */
+static bool look_at_variable(const struct round *r, struct scopes *s, int scope, struct variable_here *v, struct found *found) {
+    if (!is_variable(&v->die) || !is_declared(&v->die, s->lines[scope]) || !read_variable(v, r->frame, r->address))
+        return false;
+    return r->number == 0 ? is_it(v, s, scope, found, r->bare) : leads_to_it(v, found, r->number - 1);
+}
 
 static bool search_scope(const struct round *r, struct scopes *s, int scope) {
     struct variable_here v;
     if (dwarf_child(&s->list[scope], &v.die) != 0)
         return false;
     do {
-        if (!is_variable(&v.die) || !is_declared(&v.die, s->lines[scope]) || !read_variable(&v, r->frame, r->address))
+        struct found found = {RULE_NONE, NULL, NULL};
+        if (!look_at_variable(r, s, scope, &v, &found))
             continue;
-        if (r->number == 0 ? is_it(&v, s, scope, r->found, r->bare) : leads_to_it(&v, r->found, r->number - 1))
-            return true;
-    } while (dwarf_siblingof(&v.die, &v.die) == 0);
-    return false;
+        *r->is_unclear |= r->found->text && strcmp(r->found->text, found.text) != 0;
+        if (!r->found->text)
+            *r->found = found;
+    } while (!*r->is_unclear && dwarf_siblingof(&v.die, &v.die) == 0);
+    return r->found->text != NULL;
 }
 
 /* At the call of the recorder the first argument is still the lock, which serves variables that end with the call. */
@@ -211,11 +222,14 @@ static bool search_frame(const struct round *r) {
 
 bool search_frames(struct found *found, struct found *bare) {
     read_scopes();
-    for (int i = 0; i < ROUNDS * frame_count; i++) {
+    bool is_unclear = false;
+    for (int i = 0; i < ROUNDS * frame_count && !found->text; i++) {
         int frame = i % frame_count;
-        struct round r = {i / frame_count, frame, address_in(&frames[frame]), found, bare};
-        if (frame >= first_of_program && search_frame(&r))
-            return true;
+        struct round r = {i / frame_count, frame, address_in(&frames[frame]), found, bare, &is_unclear};
+        if (frame >= first_of_program)
+            search_frame(&r);
     }
-    return false;
+    if (is_unclear)
+        *found = (struct found){RULE_NONE, NULL, NULL};
+    return found->text != NULL;
 }

@@ -42,6 +42,11 @@ const char *text_of(const struct path *path) {
     return NULL;
 }
 
+const char *member_without_class(const struct path *path) {
+    Dwarf_Die type = path->count ? path->steps[0].type : (Dwarf_Die){0};
+    return path->count && !class_name(&type) ? written(".%s", member_of(path, 0)) : NULL;
+}
+
 const char *weak_text_of(const struct path *path) {
     for (int i = 0; i < path->count; i++) {
         Dwarf_Die type = path->steps[i].type;

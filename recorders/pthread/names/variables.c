@@ -16,6 +16,7 @@ static bool lock_in(Dwarf_Die type, uint64_t offset, struct found *found) {
     if (offset >= size || !find_lock_in_whole(type, offset, &path))
         return false;
     found->text = text_of(&path);
+    found->member = found->text ? NULL : member_without_class(&path);
     return true;
 }
 
@@ -24,9 +25,9 @@ static bool is_array(Dwarf_Die type) {
     return peel(&type, &is_lock) && dwarf_tag(&type) == DW_TAG_array_type;
 }
 
-static const char *text_of_variable(Dwarf_Die *die, Dwarf_Die type) {
+static const char *text_of_variable(Dwarf_Die *die, Dwarf_Die type, const char *member) {
     const char *name = qualified(die);
-    return written("%s%s%s", file_mark(die, name), without_anonymous(name), is_array(type) ? "[]" : "");
+    return written("%s%s%s%s", file_mark(die, name), without_anonymous(name), is_array(type) ? "[]" : "", member ? member : "");
 }
 
 static bool variable_at(const struct variable *list, size_t count, uint64_t at, struct found *found) {
@@ -44,7 +45,7 @@ static bool variable_at(const struct variable *list, size_t count, uint64_t at, 
             continue;
         found->rule = found->text ? RULE_STATIC_OBJECT : RULE_STATIC;
         if (!found->text)
-            found->text = text_of_variable(&die, type);
+            found->text = text_of_variable(&die, type, found->member);
         return true;
     }
     return false;
@@ -112,12 +113,12 @@ static bool is_at(Dwarf_Die *variable, Dwarf_Die type, const struct wanted *want
 }
 
 static const char *text_in_frame(Dwarf_Die *variable, const struct wanted *wanted) {
-    struct found found = {RULE_NONE, NULL};
+    struct found found = {RULE_NONE, NULL, NULL};
     Dwarf_Die type;
     if (!type_of(variable, &type) || !is_at(variable, type, wanted, &found))
         return NULL;
     if (!found.text && name_of(variable))
-        return written("%s:%s%s", wanted->name, name_of(variable), is_array(type) ? "[]" : "");
+        return written("%s:%s%s%s", wanted->name, name_of(variable), is_array(type) ? "[]" : "", found.member ? found.member : "");
     return found.text;
 }
 
@@ -136,7 +137,7 @@ static void search_frame(Dwarf_Die *scope, struct wanted wanted, struct found *f
         const char *text = tag == DW_TAG_variable || tag == DW_TAG_formal_parameter ? text_in_frame(&child, &wanted) : NULL;
         *is_unclear |= text && found->text && strcmp(text, found->text) != 0;
         if (text)
-            *found = (struct found){RULE_FRAME, text};
+            *found = (struct found){RULE_FRAME, text, NULL};
     } while (dwarf_siblingof(&child, &child) == 0);
 }
 
