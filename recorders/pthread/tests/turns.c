@@ -12,7 +12,14 @@
 
 static pthread_mutex_t list = PTHREAD_MUTEX_INITIALIZER, sessions = PTHREAD_MUTEX_INITIALIZER, own = PTHREAD_MUTEX_INITIALIZER;
 static const char *way;
-static int is_joined; /* the thread that takes `sessions`, which goes on until then */
+static int has_taken, is_joined; /* the thread that takes `sessions`, which goes on until it is joined */
+
+static void set(int *flag) { __atomic_store_n(flag, 1, __ATOMIC_SEQ_CST); }
+
+static void await(int *flag) {
+    while (!__atomic_load_n(flag, __ATOMIC_SEQ_CST))
+        usleep(1000);
+}
 
 static int is(const char *name) { return strcmp(way, name) == 0; }
 
@@ -24,10 +31,11 @@ static void *manager(void *takes) {
     TAKE(takes ? &sessions : &own);
     if (is("other"))
         TAKE(&own);
-    while (takes && !__atomic_load_n(&is_joined, __ATOMIC_SEQ_CST))
-        usleep(1000);
-    if (takes)
-        await_asleep();
+    if (!takes)
+        return NULL;
+    set(&has_taken);
+    await(&is_joined);
+    await_asleep();
     return NULL;
 }
 
@@ -60,6 +68,7 @@ static void join_client(pthread_t client) {
 int main(int argc, char **argv) {
     way = argc > 1 ? argv[1] : "";
     pthread_t first = started(client, NULL), second = started(manager, &sessions);
+    await(&has_taken);
     if (is("once") || is("later"))
         join_under_list(started(is("once") ? manager : lister, NULL));
     if (!is("later"))
@@ -67,7 +76,7 @@ int main(int argc, char **argv) {
     if (is("listed"))
         join_under_list(started(lister, NULL));
     pthread_t third = is("meets") || is("other") ? started(is("meets") ? client : keeper, NULL) : 0;
-    __atomic_store_n(&is_joined, 1, __ATOMIC_SEQ_CST);
+    set(&is_joined);
     join_under_list(second);
     if (is("listed"))
         join_under_list(started(lister, NULL));
