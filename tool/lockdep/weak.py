@@ -149,20 +149,24 @@ class Weakened:
     def __init__(self, findings: list[Finding]) -> None:
         self.findings = findings
         self.perhaps: dict[int, Finding] = {}  # what is still perhaps seen of a finding, by its place
+        self.sure: dict[tuple[str, ...], Finding] = {}  # what is seen without any weak acquisitions, by its lines
 
     def gone(self, kind: Kind, seen: list[Finding]) -> list[Finding]:
         """Those that aren't seen between locks any more if the acquisitions of a kind are tries, nor perhaps."""
         asked = [finding for finding in self.findings if finding.kind is Kind.LOCKS and may_be(kind, finding)]
         others = {tuple(finding.lines): finding for finding in seen if finding.kind is Kind.PERHAPS}
+        self.sure = {tuple(finding.lines): finding for finding in seen if finding.kind is Kind.LOCKS}
         gone = gone_without(asked, lines_left(seen))
         self.perhaps.update((finding.place, others[tuple(finding.lines)]) for finding in gone if tuple(finding.lines) in others)
         return [finding for finding in gone if tuple(finding.lines) not in others]
 
-    def take_perhaps(self) -> None:
-        """What no kind of acquisitions explains is perhaps seen otherwise, between locks that share a name."""
+    def take_others(self) -> None:
+        """What no kind of acquisitions explains is perhaps seen otherwise, between locks that share a name; or it is shown by locks that need none
+        of them."""
         for finding in self.findings:
-            if finding.kind is Kind.LOCKS and finding.place in self.perhaps:
-                give(finding, self.perhaps[finding.place].between)
+            other = self.perhaps.get(finding.place) or self.sure.get(tuple(finding.lines))
+            if finding.kind is Kind.LOCKS and other:
+                give(finding, other.between)
 
 
 def give(finding: Finding, between: Between) -> None:
@@ -182,4 +186,4 @@ def weaken(findings: list[Finding], folder: str, traces: list[str], room: str) -
         for finding in weakened.gone(kind, seen) if seen is not None else ():
             finding.between.kind = kind
             finding.json["between"]["kind"] = kind.value
-    weakened.take_perhaps()
+    weakened.take_others()
