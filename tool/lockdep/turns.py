@@ -145,10 +145,10 @@ def find_turns(findings: list[Finding], folder: str, traces: list[str], room: st
     except AskedTooOften:
         return
     gone = {finding.place for finding in gone_without(seen, lines_left(possible))}
-    others = {(tuple(finding.lines), finding.kind): finding.between for finding in reversed(possible)}
+    others = {(frozenset(finding.lines), finding.kind): finding.between for finding in reversed(possible)}
     for finding in seen:
         is_gone = finding.place in gone
-        other = others.get((tuple(finding.lines), Kind.PERHAPS if is_gone else Kind.LOCKS))
+        other = others.get((frozenset(finding.lines), Kind.PERHAPS if is_gone else Kind.LOCKS))
         if other:
             give(finding, other)
         elif is_gone:

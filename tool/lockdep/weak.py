@@ -149,22 +149,22 @@ class Weakened:
     def __init__(self, findings: list[Finding]) -> None:
         self.findings = findings
         self.perhaps: dict[int, Finding] = {}  # what is still perhaps seen of a finding, by its place
-        self.sure: dict[tuple[str, ...], Finding] = {}  # what is seen without any weak acquisitions, by its lines
+        self.sure: dict[frozenset[str], Finding] = {}  # what is seen without any weak acquisitions, by its lines
 
     def gone(self, kind: Kind, seen: list[Finding]) -> list[Finding]:
         """Those that aren't seen between locks any more if the acquisitions of a kind are tries, nor perhaps."""
         asked = [finding for finding in self.findings if finding.kind is Kind.LOCKS and may_be(kind, finding)]
-        others = {tuple(finding.lines): finding for finding in seen if finding.kind is Kind.PERHAPS}
-        self.sure = {tuple(finding.lines): finding for finding in seen if finding.kind is Kind.LOCKS}
+        others = {frozenset(finding.lines): finding for finding in seen if finding.kind is Kind.PERHAPS}
+        self.sure = {frozenset(finding.lines): finding for finding in seen if finding.kind is Kind.LOCKS}
         gone = gone_without(asked, lines_left(seen))
-        self.perhaps.update((finding.place, others[tuple(finding.lines)]) for finding in gone if tuple(finding.lines) in others)
-        return [finding for finding in gone if tuple(finding.lines) not in others]
+        self.perhaps.update((finding.place, others[frozenset(finding.lines)]) for finding in gone if frozenset(finding.lines) in others)
+        return [finding for finding in gone if frozenset(finding.lines) not in others]
 
     def take_others(self) -> None:
         """What no kind of acquisitions explains is perhaps seen otherwise, between locks that share a name; or it is shown by locks that need none
         of them."""
         for finding in self.findings:
-            other = self.perhaps.get(finding.place) or self.sure.get(tuple(finding.lines))
+            other = self.perhaps.get(finding.place) or self.sure.get(frozenset(finding.lines))
             if finding.kind is Kind.LOCKS and other:
                 give(finding, other.between)
 
