@@ -29,7 +29,7 @@ ADVICE: dict[str, str] = {
     "namespaces": "load these by dlopen",
     "unwritten": ON_DISK,
     "still-running": "let these end before the command does",
-    "unrewritten": "use a newer ASM, which knows the classes' version",
+    "unrewritten": "split methods that are too long, and have class loaders find java.lockdep; with LOCKDEP_JAVA_WHY=1 the recorder says why each class stays",
     "synchronizers": "look at these by hand, or use a Lock of java.util.concurrent.locks",
     "multiprocessing": "look at these by hand: no recorder sees them",
     "unguarded": "give this Python its lock, by PYTHON_GIL=1 in the environment",

@@ -48,6 +48,20 @@ final class Hierarchy implements AutoCloseable {
         if (jar != null) jar.giveBack();
     }
 
+    /** Whether the classes of the loader find what rewritten ones call. One may hand on only some packages of the JDK's. */
+    boolean findsHooks() {
+        if (known.findsHooks == null) known.findsHooks = loader == null || finds(Calls.HOOKS);
+        return known.findsHooks;
+    }
+
+    private boolean finds(String name) {
+        try {
+            return Class.forName(name.replace('/', '.'), false, loader).getClassLoader() == null;
+        } catch (ClassNotFoundException | LinkageError | RuntimeException hidden) {
+            return false;
+        }
+    }
+
     /** A class is being loaded. */
     void add(ClassFile type, Locking locking) {
         known.classes.put(type.name, new Facts(type, locking));
@@ -213,6 +227,8 @@ final class Hierarchy implements AutoCloseable {
 
         final ConcurrentHashMap<String, Facts> classes;
         final Set<String> missing = ConcurrentHashMap.newKeySet();
+        /** Whether its classes find what rewritten ones call; null if that wasn't tried yet. */
+        volatile Boolean findsHooks;
         private final int hash;
 
         private OfLoader(ClassLoader loader) {

@@ -88,7 +88,9 @@ final class Rewriter implements ClassFileTransformer {
             hierarchy.add(type, locking);
             boolean isOfProgram = !isOfJdk && loader != null && loader != ClassLoader.getPlatformClassLoader();
             Wanted wanted = new Wanted(type, hierarchy, locking, isOfProgram, begins(Locking.BUFFER, jdk));
-            return wanted.hasAny() ? rewrite(type, source, wanted) : null;
+            if (!wanted.hasAny()) return null;
+            if (!hierarchy.findsHooks()) throw new IllegalStateException("its class loader doesn't find java.lockdep.Hooks");
+            return rewrite(type, source, wanted);
         }
     }
 
