@@ -34,7 +34,7 @@ public final class Hooks {
         try {
             task.enter(object, site, isAsked);
         } catch (Throwable error) {
-            task.abandon();
+            task.abandon(error);
             return;
         }
         task.leave();
@@ -48,7 +48,7 @@ public final class Hooks {
         try {
             task.exit(object);
         } catch (Throwable error) {
-            task.abandon();
+            task.abandon(error);
             return;
         }
         task.leave();
@@ -88,7 +88,7 @@ public final class Hooks {
         try {
             levels = task.suspend(object);
         } catch (Throwable error) {
-            task.abandon();
+            task.abandon(error);
             return 0;
         }
         task.leave();
@@ -101,7 +101,7 @@ public final class Hooks {
         try {
             task.resume(object, levels, site);
         } catch (Throwable error) {
-            task.abandon();
+            task.abandon(error);
             return;
         }
         task.leave();
@@ -117,7 +117,7 @@ public final class Hooks {
         try {
             Known.made(object, Site.of(site).made());
         } catch (Throwable error) {
-            task.abandon();
+            task.abandon(error);
             return;
         }
         task.leave();
@@ -138,7 +138,7 @@ public final class Hooks {
             if (made == null && !Known.isMade(object)) made = Site.madeByCaller(object);
             if (made != null) Known.made(object, made);
         } catch (Throwable error) {
-            task.abandon();
+            task.abandon(error);
             return;
         }
         task.leave();
@@ -153,7 +153,7 @@ public final class Hooks {
                 Known.started((Thread) thread, Site.of(site).ofThreads());
                 task.leave();
             } catch (Throwable error) {
-                task.abandon();
+                task.abandon(error);
             }
         }
         ((Thread) thread).start();
@@ -252,7 +252,7 @@ public final class Hooks {
         try {
             Known.addCondition(condition, task.lock(lock));
         } catch (Throwable error) {
-            task.abandon();
+            task.abandon(error);
             return condition;
         }
         task.leave();
@@ -268,7 +268,7 @@ public final class Hooks {
             if (isTaken) task.took(task.lock(lock), Modes.Manner.TRIES, site);
             else task.failed(task.lock(lock));
         } catch (Throwable error) {
-            task.abandon();
+            task.abandon(error);
             return;
         }
         task.leave();
@@ -283,7 +283,7 @@ public final class Hooks {
         try {
             isSeen = task.gave(task.lock(lock), site);
         } catch (Throwable error) {
-            task.abandon();
+            task.abandon(error);
             return true;
         }
         task.leave();
@@ -297,7 +297,7 @@ public final class Hooks {
         try {
             task.gaveUnseen(task.lock(lock));
         } catch (Throwable error) {
-            task.abandon();
+            task.abandon(error);
             return;
         }
         task.leave();

@@ -36,7 +36,7 @@ final class Join {
                 join = new Join(task, life, mannerOf(thread, isTimed), site);
             }
         } catch (Throwable error) {
-            task.abandon();
+            task.abandon(error);
             return null;
         }
         task.leave();
@@ -79,7 +79,7 @@ final class Join {
             life.waitFor();
             wanted = task.want(life, manner, site);
         } catch (Throwable error) {
-            task.abandon();
+            task.abandon(error);
             return;
         }
         task.leave();
@@ -91,7 +91,7 @@ final class Join {
             if (isPassed) task.passed(wanted);
             else task.withdraw(wanted);
         } catch (Throwable error) {
-            task.abandon();
+            task.abandon(error);
             return;
         }
         task.leave();
@@ -104,7 +104,7 @@ final class Join {
             life.waitFor();
             task.passed(task.want(life, manner, site));
         } catch (Throwable error) {
-            task.abandon();
+            task.abandon(error);
             return;
         }
         task.leave();

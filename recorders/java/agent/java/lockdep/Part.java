@@ -14,7 +14,7 @@ final class Part {
         try {
             Known.addView(view, isReader, task.lock(lock));
         } catch (Throwable error) {
-            task.abandon();
+            task.abandon(error);
             return view;
         }
         task.leave();

@@ -25,7 +25,7 @@ final class Pause {
             int levels = known == null ? 0 : task.suspend(known);
             if (levels > 0) pause = new Pause(task, known, levels);
         } catch (Throwable error) {
-            task.abandon();
+            task.abandon(error);
             return NONE;
         }
         task.leave();
@@ -37,7 +37,7 @@ final class Pause {
         try {
             task.resume(lock, levels, site);
         } catch (Throwable error) {
-            task.abandon();
+            task.abandon(error);
             return;
         }
         task.leave();

@@ -32,6 +32,8 @@ public final class Recording {
     private final File path;
     private final FileOutputStream file;
     private final ArrayList<Task> tasks = new ArrayList<>();
+    /** The tasks by their threads' hashes; of two with one hash the younger. */
+    private final HashMap<Integer, Task> byThread = new HashMap<>();
     private final HashMap<String, Integer> places = new HashMap<>();
     private final HashMap<Integer, Integer> like = new HashMap<>();
     private final String[] names = {"operations", "repeats", "retried-tries", "beyond-held", "full-traces",
@@ -122,6 +124,16 @@ public final class Recording {
             recording.sweep();
             recording.sweep();
             recording.tasks.add(task);
+            recording.byThread.put(task.hashOfThread, task);
+        }
+    }
+
+    /** The task that a thread has already; null if none is known. */
+    static Task taskOf(Thread thread) {
+        Recording recording = it;
+        synchronized (recording) {
+            Task task = recording.byThread.get(System.identityHashCode(thread));
+            return task == null || task.thread.get() != thread ? null : task;
         }
     }
 
@@ -324,6 +336,7 @@ public final class Recording {
             return;
         }
         end(task);
+        byThread.remove(task.hashOfThread, task);
         tasks.set(nextSwept, tasks.get(tasks.size() - 1));
         tasks.remove(tasks.size() - 1);
     }

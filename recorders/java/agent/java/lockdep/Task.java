@@ -19,6 +19,7 @@ final class Task {
     private static final ThreadLocal<Task> here = new ThreadLocal<>();
 
     final WeakReference<Thread> thread;
+    final int hashOfThread = System.identityHashCode(Thread.currentThread());
     final long startOfThread = System.nanoTime();
     /** Its number in the file, once it is there. */
     int number;
@@ -87,7 +88,12 @@ final class Task {
 
     @Apart
     private static Task add() {
-        Task task = new Task();
+        Task task = Recording.taskOf(Thread.currentThread());
+        if (task != null) { // a pool of the JDK's has taken from its thread what is local to that
+            here.set(task);
+            return task;
+        }
+        task = new Task();
         task.isBusy = true;
         here.set(task);
         Recording.add(task);
@@ -130,9 +136,10 @@ final class Task {
      * here, and it stays busy.
      */
     @Apart
-    void abandon() {
+    void abandon(Throwable error) {
         isOver = true;
         Recording.interrupted();
+        if (error.getClass().getName().equals("java.lang.ThreadDeath")) throw (Error) error; // by Thread.stop
     }
 
     /** The class of an object whose constructor runs; null if the constructor wasn't told where it is called. */

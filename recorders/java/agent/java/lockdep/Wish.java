@@ -31,7 +31,7 @@ final class Wish {
             Known known = task.lock(lock);
             wish = new Wish(task, known, manner, known.isOfJdk ? task.want(known, manner, site) : null);
         } catch (Throwable error) {
-            task.abandon();
+            task.abandon(error);
             return NONE;
         }
         task.leave();
@@ -45,7 +45,7 @@ final class Wish {
         try {
             if (lock.isOfJdk) task.breakOff(wanted);
         } catch (Throwable error) {
-            task.abandon();
+            task.abandon(error);
             return;
         }
         task.leave();
@@ -59,7 +59,7 @@ final class Wish {
             else if (lock.isOfJdk) task.grant(lock, wanted, manner, site);
             else task.took(lock, manner, site);
         } catch (Throwable error) {
-            task.abandon();
+            task.abandon(error);
             return;
         }
         task.leave();
