@@ -9,7 +9,7 @@ import java.util.concurrent.locks.StampedLock;
 
 /**
  * What rewritten classes call. The package begins with `java` since there are class loaders, such as those of OSGi,
- * that find nothing else outside. The recorder itself never throws anything here.
+ * that find nothing else outside. The recorder itself never throws anything here; what Thread.stop throws passes.
  */
 public final class Hooks {
     private Hooks() {
