@@ -101,9 +101,11 @@ final class Calls {
         if (!NAMES.has(call.name)) return null;
         String signature = call.name + call.descriptor;
         if (WAITS.contains(signature)) return "java/lang/Object";
-        // (as an object of any class, so that the JVM needn't load that class to see that it is a thread)
+        // (as an object of any class, so that the JVM needn't load that class to see that it is a thread, which no
+        // interface is)
         if (OF_THREAD.contains(signature)) {
-            return hierarchy.isThread(call.owner) ? "java/lang/Object" : null;
+            boolean mayBeThread = call.opcode == Opcodes.INVOKEVIRTUAL && hierarchy.isThread(call.owner);
+            return mayBeThread ? "java/lang/Object" : null;
         }
         if (OF_LOCK.contains(signature)) return isLock(call.owner, hierarchy) ? LOCK : null;
         if (signature.equals(MAKER)) return isLock(call.owner, hierarchy) ? LOCK : null;

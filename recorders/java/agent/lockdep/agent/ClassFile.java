@@ -102,12 +102,15 @@ final class ClassFile {
     final int endOfMethods;
     /** Where each constant begins. */
     private final int[] constants;
+    /** The texts that were asked for. */
+    private final String[] texts;
     private int next;
 
     ClassFile(byte[] bytes) {
         this.bytes = bytes;
         version = number(6);
         constants = new int[number(8)];
+        texts = new String[constants.length];
         int at = findConstants();
         endOfConstants = at;
         self = number(at + 2);
@@ -267,6 +270,11 @@ final class ClassFile {
     }
 
     String text(int constant) {
+        String known = texts[constant];
+        return known != null ? known : (texts[constant] = read(constant));
+    }
+
+    private String read(int constant) {
         int length = part(constant, 1);
         String text = new String(bytes, constants[constant] + 3, length, StandardCharsets.UTF_8);
         return text.length() == length ? text : otherText(constants[constant] + 1, length + 2);

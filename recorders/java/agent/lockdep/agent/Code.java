@@ -51,6 +51,8 @@ final class Code {
     private Bytes handler;
     private Bytes variables;
     private int lineOfEntry;
+    /** What isn't copied as it is: jumps, and where something is added. */
+    private final boolean[] isChanged;
     /** Where jumps to each instruction go. */
     private final int[] places;
     private Bytes out;
@@ -63,12 +65,23 @@ final class Code {
         before = new Bytes[length];
         after = new Bytes[length + 1];
         instead = new Bytes[length];
+        isChanged = new boolean[length + 1];
         places = new int[length + 1];
     }
 
-    private static Bytes at(Bytes[] all, int place) {
+    private Bytes at(Bytes[] all, int place) {
+        isChanged[place] = true;
         if (all[place] == null) all[place] = new Bytes(16);
         return all[place];
+    }
+
+    /** An instruction that says how far it jumps, each of which has to be told. */
+    void addJump(int at) {
+        isChanged[at - method.start] = true;
+    }
+
+    static boolean isJump(int opcode) {
+        return KINDS[opcode] != PLAIN;
     }
 
     // ---- What is added; places are those of the file.
@@ -126,29 +139,29 @@ final class Code {
 
     /** Finds out where everything is. Returns the length of the code, without the handler. */
     private int arrange() {
-        int place = 0;
-        int next;
-        for (int at = method.start; at < method.end; at = next) {
-            int old = at - method.start;
-            next = type.after(at, method);
-            if (after[old] != null) place += after[old].length();
-            places[old] = place;
-            if (before[old] != null) place += before[old].length();
-            if (instead[old] != null) place += instead[old].length();
-            else place += KINDS[type.bytes[at] & 255] == SWITCH ? lengthOfSwitch(at, next, place) : next - at;
+        int more = 0;
+        for (int old = 0; old <= length; old++) {
+            if (!isChanged[old]) {
+                places[old] = old + more;
+                continue;
+            }
+            more += lengthOf(after[old]);
+            places[old] = old + more;
+            if (old < length) more += lengthOf(before[old]) + growth(old, places[old]);
         }
-        place += lengthOf(after[length]);
-        places[length] = place;
-        if (place + lengthOf(handler) <= LONGEST) return place;
+        if (places[length] + lengthOf(handler) <= LONGEST) return places[length];
         throw new IllegalStateException("its method " + method.name() + " is too long");
+    }
+
+    /** By how much an instruction is longer than it was. */
+    private int growth(int old, int place) {
+        int at = method.start + old;
+        if (instead[old] != null) return instead[old].length() - (type.after(at, method) - at);
+        return KINDS[type.opcode(at)] != SWITCH ? 0 : padding(place + lengthOf(before[old])) - padding(old);
     }
 
     private static int lengthOf(Bytes added) {
         return added == null ? 0 : added.length();
-    }
-
-    private int lengthOfSwitch(int at, int next, int place) {
-        return next - at - padding(at - method.start) + padding(place);
     }
 
     private static int padding(int place) {
@@ -159,18 +172,16 @@ final class Code {
     private void writeInstructions() {
         int begin = out.length();
         int copied = method.start;
-        int next;
-        for (int at = method.start; at < method.end; at = next) {
-            int old = at - method.start;
-            next = type.after(at, method);
-            boolean isPlain = KINDS[type.bytes[at] & 255] == PLAIN && instead[old] == null;
-            if (isPlain && before[old] == null && after[old] == null) continue;
+        for (int old = 0; old < length; old++) {
+            if (!isChanged[old]) continue;
+            int at = method.start + old;
+            boolean isCopied = instead[old] == null && !isJump(type.opcode(at));
             out.put(type.bytes, copied, at);
-            copied = isPlain ? at : next;
+            copied = isCopied ? at : type.after(at, method);
             if (after[old] != null) out.put(after[old]);
             if (before[old] != null) out.put(before[old]);
             if (instead[old] != null) out.put(instead[old]);
-            else if (!isPlain) writeJump(at, next, out.length() - begin);
+            else if (!isCopied) writeJump(at, copied, out.length() - begin);
         }
         out.put(type.bytes, copied, method.end);
         if (after[length] != null) out.put(after[length]);

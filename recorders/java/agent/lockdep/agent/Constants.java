@@ -3,6 +3,8 @@ package lockdep.agent;
 import java.io.ByteArrayOutputStream;
 import java.io.DataOutputStream;
 import java.io.IOException;
+import java.nio.charset.StandardCharsets;
+import java.util.Arrays;
 import java.util.HashMap;
 import java.util.Map;
 
@@ -20,52 +22,76 @@ final class Constants {
 
     private final ClassFile type;
     private final Bytes added = new Bytes(256);
-    private final Map<String, Integer> numbers = new HashMap<>();
+    private final Map<String, Integer> texts = new HashMap<>();
+    private final int[] hooks = new int[Hook.COUNT];
+    /** What was added, in this order: each kind with its one or two numbers; 0 for a text. */
+    private long[] parts = new long[64];
+    private final int first;
     private int count;
     private final Bytes bootstraps = new Bytes(0);
     private int countOfBootstraps;
 
     Constants(ClassFile type) {
         this.type = type;
-        count = type.countOfConstants();
+        first = count = type.countOfConstants();
         countOfBootstraps = type.countOfBootstraps();
     }
 
-    private int add(String key) {
+    private int add(long part) {
         if (count >= MOST) throw new IllegalStateException("it has too many constants");
-        numbers.put(key, count);
+        if (count - first == parts.length) parts = Arrays.copyOf(parts, 2 * parts.length);
+        parts[count - first] = part;
         return count++;
     }
 
+    /** The constant that was added for this; 0 if there is none. */
+    private int find(long part) {
+        int place = count - first;
+        while (--place >= 0 && parts[place] != part) { }
+        return place < 0 ? 0 : first + place;
+    }
+
+    private static long part(int kind, int number) {
+        return (long) kind << 32 | number & 0xFFFFFFFFL;
+    }
+
     int text(String text) {
-        Integer known = numbers.get(text);
+        Integer known = texts.get(text);
         if (known != null) return known;
+        byte[] bytes = text.getBytes(StandardCharsets.UTF_8);
+        if (bytes.length != text.length() || text.indexOf(0) >= 0) bytes = ofOtherText(text);
+        added.put(TEXT).putShort(bytes.length).put(bytes, 0, bytes.length);
+        texts.put(text, count);
+        return add(0);
+    }
+
+    /** (Class files have a way of their own to write letters that aren't ASCII's.) */
+    private static byte[] ofOtherText(String text) {
         ByteArrayOutputStream bytes = new ByteArrayOutputStream();
         try (DataOutputStream out = new DataOutputStream(bytes)) {
             out.writeUTF(text);
         } catch (IOException tooLong) {
             throw new IllegalStateException(tooLong);
         }
-        added.put(TEXT).put(bytes.toByteArray(), 0, bytes.size());
-        return add(text);
+        return Arrays.copyOfRange(bytes.toByteArray(), 2, bytes.size());
     }
 
     /** A constant of one or two numbers, the second of which is 0 if there is only one. */
-    private int of(int kind, int first, int second) {
-        String key = "\n" + kind + " " + first + " " + second;
-        Integer known = numbers.get(key);
-        if (known != null) return known;
-        added.put(kind).putShort(first);
-        if (second != 0) added.putShort(second);
-        return add(key);
+    private int of(int kind, int one, int other) {
+        long part = part(kind, one << 16 | other);
+        int known = find(part);
+        if (known != 0) return known;
+        added.put(kind).putShort(one);
+        if (other != 0) added.putShort(other);
+        return add(part);
     }
 
     int number(int value) {
-        String key = "\n" + value;
-        Integer known = numbers.get(key);
-        if (known != null) return known;
+        long part = part(INTEGER, value);
+        int known = find(part);
+        if (known != 0) return known;
         added.put(INTEGER).putInt(value);
-        return add(key);
+        return add(part);
     }
 
     int string(String text) {
@@ -81,21 +107,21 @@ final class Constants {
     }
 
     int method(String owner, String name, String descriptor) {
-        String key = owner.concat(name).concat(descriptor);
-        Integer known = numbers.get(key);
-        if (known != null) return known;
-        int method = of(ClassFile.METHOD, type(owner), nameAndType(name, descriptor));
-        numbers.put(key, method);
-        return method;
+        return of(ClassFile.METHOD, type(owner), nameAndType(name, descriptor));
+    }
+
+    int method(Hook hook) {
+        int known = hooks[hook.ordinal()];
+        return known != 0 ? known : (hooks[hook.ordinal()] = method(Calls.HOOKS, hook.called, hook.descriptor));
     }
 
     /** A handle to a static method. */
     int handle(int method) {
-        String key = "\nhandle " + method;
-        Integer known = numbers.get(key);
-        if (known != null) return known;
+        long part = part(ClassFile.HANDLE, method);
+        int known = find(part);
+        if (known != 0) return known;
         added.put(ClassFile.HANDLE).put(Opcodes.H_INVOKESTATIC).putShort(method);
-        return add(key);
+        return add(part);
     }
 
     /** A dynamic call like another one, with another descriptor, and with another handle among its words. */
@@ -107,7 +133,7 @@ final class Constants {
         }
         int called = nameAndType(type.nameOfMember(call), descriptor);
         added.put(ClassFile.DYNAMIC_CALL).putShort(countOfBootstraps++).putShort(called);
-        return add("\ncall " + countOfBootstraps);
+        return add(part(ClassFile.DYNAMIC_CALL, countOfBootstraps));
     }
 
     /** All of the class's constants, with their number. */

@@ -35,6 +35,8 @@ final class Hierarchy implements AutoCloseable {
     private final OfLoader known;
     /** The folder or jar of the class that asks, in which others are looked for first, since that costs less; or null. */
     private final String location;
+    /** The same once it was opened: one of these. */
+    private File folder;
     private Jar jar;
 
     Hierarchy(ClassLoader loader, String location) {
@@ -166,14 +168,18 @@ final class Hierarchy implements AutoCloseable {
     }
 
     private InputStream openNear(String file) throws IOException {
-        File place = new File(location);
-        if (place.isDirectory()) {
-            File found = new File(place, file);
+        if (folder == null && jar == null) open(new File(location));
+        if (folder != null) {
+            File found = new File(folder, file);
             return found.isFile() ? new FileInputStream(found) : null;
         }
-        if (jar == null) jar = Jar.of(place);
         ZipEntry entry = jar.getEntry(file);
         return entry == null ? null : jar.getInputStream(entry);
+    }
+
+    private void open(File place) throws IOException {
+        if (place.isDirectory()) folder = place;
+        else jar = Jar.of(place);
     }
 
     /** A jar that is open. The last one that was needed stays open, since the next class is often of the same jar. */

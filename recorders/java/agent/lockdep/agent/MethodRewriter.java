@@ -19,8 +19,6 @@ import org.objectweb.asm.Opcodes;
 final class MethodRewriter {
     private static final int LDC_W = 19;
     private static final int ALOAD_0 = 42;
-    private static final String OF_OBJECT = "(Ljava/lang/Object;)V";
-    private static final String OF_OBJECT_AND_SITE = "(Ljava/lang/Object;I)V";
 
     private final ClassFile type;
     private final ClassFile.Method method;
@@ -71,6 +69,7 @@ final class MethodRewriter {
     boolean rewrite() {
         if (method.isSynchronized() && !new Frames(type, method, descriptor).keepThis())
                 throw new IllegalStateException("its method " + name + " changes `this`");
+        isByItself = method.isSynchronized() && isToEnterByItself();
         passAll();
         if (method.isSynchronized()) wrap();
         return isChanged;
@@ -85,8 +84,15 @@ final class MethodRewriter {
             int own = all[at - method.start];
             if (own != 0) line = own;
             int opcode = bytes[at] & 255;
-            if (opcode >= Opcodes.INVOKEVIRTUAL) rewrite(opcode, at, next);
+            if (opcode >= Opcodes.IFEQ) pass(opcode, at, next);
         }
+    }
+
+    private void pass(int opcode, int at, int next) {
+        boolean isReturn = opcode >= Opcodes.IRETURN && opcode <= Opcodes.RETURN;
+        if (Code.isJump(opcode)) code.addJump(at);
+        else if (opcode >= Opcodes.INVOKEVIRTUAL) rewrite(opcode, at, next);
+        else if (isReturn && method.isSynchronized()) exits(before(at));
     }
 
     /** The method as it is now. */
@@ -100,8 +106,8 @@ final class MethodRewriter {
     private void rewrite(int opcode, int at, int next) {
         if (opcode <= Opcodes.INVOKEINTERFACE) rewriteCall(opcode, at, next);
         else if (opcode == Opcodes.INVOKEDYNAMIC && wanted.matters(type.number(at + 1))) rewriteReferences(at);
-        else if (opcode == Opcodes.MONITORENTER) enter(site(before(at).put(Opcodes.DUP)));
-        else if (opcode == Opcodes.MONITOREXIT) exit(before(at).put(Opcodes.DUP));
+        else if (opcode == Opcodes.MONITORENTER) call(site(before(at).put(Opcodes.DUP)), Hook.ENTER);
+        else if (opcode == Opcodes.MONITOREXIT) call(before(at).put(Opcodes.DUP), Hook.EXIT);
         else if (opcode == Opcodes.NEW) news.push(at);
         else if (isArray(opcode) && isKeptInLockedField(next)) noteMade(at, next, -1);
     }
@@ -122,16 +128,8 @@ final class MethodRewriter {
         return code.beforeNext(next);
     }
 
-    private Bytes hook(Bytes to, String called, String words) {
-        return to.put(Opcodes.INVOKESTATIC).putShort(constants.method(Calls.HOOKS, called, words));
-    }
-
-    private Bytes enter(Bytes to) {
-        return hook(to, "enter", OF_OBJECT_AND_SITE);
-    }
-
-    private Bytes exit(Bytes to) {
-        return hook(to, "exit", OF_OBJECT);
+    private Bytes call(Bytes to, Hook hook) {
+        return to.put(Opcodes.INVOKESTATIC).putShort(constants.method(hook));
     }
 
     private Bytes site(Bytes to) {
@@ -158,15 +156,17 @@ final class MethodRewriter {
     private void rewriteCall(Calls.Call call, int at, int next) {
         if (call.owner.equals("java/util/Collections") && call.name.startsWith("synchronized")) noteMade(at, next, -1);
         int depth = source.isOfJdk ? 0 : Calls.depthOfStart(call);
-        if (depth == 2) hook(before(at).put(Opcodes.DUP2).put(Opcodes.POP), "starts", OF_OBJECT);
-        else if (depth == 1) hook(before(at).put(Opcodes.DUP), "starts", OF_OBJECT);
+        if (depth == 2) call(before(at).put(Opcodes.DUP2).put(Opcodes.POP), Hook.STARTS);
+        else if (depth == 1) call(before(at).put(Opcodes.DUP), Hook.STARTS);
         String receiver = Calls.receiver(call, wanted.hierarchy);
         if (receiver == null) return;
         boolean hasSite = Calls.hasSite(call);
         if (hasSite) site(before(at));
         int end = call.descriptor.indexOf(')');
         String words = call.descriptor.substring(1, end) + (hasSite ? "I" : "");
-        hook(code.instead(at), call.name, "(L" + receiver + ";" + words + call.descriptor.substring(end));
+        String descriptorOfHook = "(L" + receiver + ";" + words + call.descriptor.substring(end);
+        int called = constants.method(Calls.HOOKS, call.name, descriptorOfHook);
+        code.instead(at).put(Opcodes.INVOKESTATIC).putShort(called);
         isChanged = true;
     }
 
@@ -204,7 +204,7 @@ final class MethodRewriter {
             if (isKept && (wanted.matters(type.number(made + 1)) || isKeptInLockedField(next))) noteMade(at, next, at);
         } else if (method.isConstructor && news.isEmpty() && wanted.locking.isOfItself()
                 && !type.owner(called).equals(type.name)) {
-            hook(behind(next).put(ALOAD_0), "born", OF_OBJECT);
+            call(behind(next).put(ALOAD_0), Hook.BORN);
         }
     }
 
@@ -224,13 +224,13 @@ final class MethodRewriter {
         madeOnLine.put(line, ordinal);
         int site = Site.add(source, name, line, ordinal);
         noted.add(new Noted(line, ordinal, constructor));
-        hook(number(behind(next).put(Opcodes.DUP), site), "made", OF_OBJECT_AND_SITE);
+        call(number(behind(next).put(Opcodes.DUP), site), Hook.MADE);
     }
 
     /** A constructor looks for its caller if it isn't told where it is called, and that costs much. */
     private void tell(int called, int at) {
         int site = Site.addCall(source, name, descriptor, line, type.owner(called).replace('/', '.'));
-        hook(number(before(at), site), "makes", "(I)V");
+        call(number(before(at), site), Hook.MAKES);
         told.put(site, at);
     }
 
@@ -256,24 +256,19 @@ final class MethodRewriter {
                 Hierarchy.MOST_ABOVE);
     }
 
-    /** The method enters the monitor before its first line, and exits it before each return and on an error. */
+    /** The method enters the monitor before its first line, and exits it on an error, as it does before each return. */
     private void wrap() {
-        isByItself = isToEnterByItself();
         line = lines.first;
-        for (int at = method.start; at < method.end; at = type.after(at, method)) {
-            boolean isReturn = type.opcode(at) >= Opcodes.IRETURN && type.opcode(at) <= Opcodes.RETURN;
-            if (isReturn) exits(before(at));
-        }
         Bytes entry = site(owner(behind(method.start)));
-        if (isByItself) owner(enter(entry)).put(Opcodes.MONITORENTER);
-        else hook(entry, "entered", OF_OBJECT_AND_SITE);
+        if (isByItself) owner(call(entry, Hook.ENTER)).put(Opcodes.MONITORENTER);
+        else call(entry, Hook.ENTERED);
         Bytes variables = new Bytes(8).putShort(method.isStatic() ? 0 : 1);
         if (!method.isStatic()) variables.put(Code.OBJECT).putShort(type.self);
         code.handle(exits(new Bytes(16)).put(Opcodes.ATHROW), variables, isByItself ? line : 0);
     }
 
     private Bytes exits(Bytes to) {
-        exit(owner(to));
+        call(owner(to), Hook.EXIT);
         return isByItself ? owner(to).put(Opcodes.MONITOREXIT) : to;
     }
 

@@ -26,6 +26,7 @@ final class Rewriter implements ClassFileTransformer {
     private static final String[] ALWAYS = {"java/lang/StringBuffer"};
 
     private final String[] jdk;
+    private volatile Location last;
 
     Rewriter(String[] jdk) {
         this.jdk = jdk;
@@ -117,9 +118,25 @@ final class Rewriter implements ClassFileTransformer {
         return written.toArray();
     }
 
-    private static String location(ProtectionDomain domain) {
+    /** The folder or jar of a class; null if it is of none. */
+    private String location(ProtectionDomain domain) {
         CodeSource source = domain == null ? null : domain.getCodeSource();
-        URL url = source == null ? null : source.getLocation();
-        return url == null || !url.getProtocol().equals("file") ? null : url.getPath().replace("%20", " ");
+        if (source == null) return null;
+        Location known = last;
+        if (known == null || known.source != source) last = known = new Location(source);
+        return known.path;
+    }
+
+    /** Where the classes of one source of code are. Most are of the same one as the class before. */
+    private static final class Location {
+        final CodeSource source;
+        final String path;
+
+        Location(CodeSource source) {
+            URL url = source.getLocation();
+            boolean isFile = url != null && url.getProtocol().equals("file");
+            this.source = source;
+            path = isFile ? url.getPath().replace("%20", " ") : null;
+        }
     }
 }
