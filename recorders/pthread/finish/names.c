@@ -154,12 +154,26 @@ static bool is_library(uint64_t word) {
     return false;
 }
 
-/* A function by its symbol and by another name, if it has one: that of C++ in plain words, and that of C without what a compiler adds
-   for a copy or a part of the function, as in `open.constprop.0`. */
+/* A function by its symbol and by other names, if it has some: that of C++ in plain words, with and without what its templates are of, and
+   that of C without what a compiler adds for a copy or a part of the function, as in `open.constprop.0`. */
 struct function {
     const char *symbol;
     char other[LONGEST_NAME];
+    char bare[LONGEST_NAME];
 };
+
+/* A name without what its templates are of, which says nothing of what the function does. */
+static void cut_arguments(char *bare, const char *name) {
+    int depth = 0;
+    for (size_t i = 0; name[i]; i++) {
+        bool is_end = name[i] == '>' && depth > 0 && name[i - 1] != '-';
+        depth += name[i] == '<';
+        if (depth == 0)
+            *bare++ = name[i];
+        depth -= is_end;
+    }
+    *bare = 0;
+}
 
 static void read_function(struct function *f, const struct symbol *s) {
     f->symbol = s->name;
@@ -168,10 +182,13 @@ static void read_function(struct function *f, const struct symbol *s) {
         f->other[strcspn(f->other, ".")] = 0;
     if (strcmp(f->other, s->name) == 0)
         f->other[0] = 0;
+    cut_arguments(f->bare, f->other);
 }
 
+/* A pattern that has a `<` of its own is compared with what a template is of, too. */
 static bool fits(const char *pattern, const struct function *f) {
-    return fnmatch(pattern, f->symbol, 0) == 0 || (f->other[0] && fnmatch(pattern, f->other, 0) == 0);
+    const char *other = strchr(pattern, '<') ? f->other : f->bare;
+    return fnmatch(pattern, f->symbol, 0) == 0 || (other[0] && fnmatch(pattern, other, 0) == 0);
 }
 
 static const char *behind(const char *line, const char *word) {

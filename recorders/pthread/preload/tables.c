@@ -65,14 +65,15 @@ void each_name(struct names *names, void (*visit)(uint32_t *value)) {
    an object of 23 bits, of which there are fewer than that. */
 
 #define LOCK_WAYS 8 /* the bytes of a line of the processor's */
-#define LOCK_LEVELS 4
+#define LOCK_LEVELS 5
+#define SPREAD (LOCK_LEVELS - 1) /* the level of what the lines of its block had no room for: each eighth of a block has a line there */
 #define FEWEST_BITS 5
 #define IN_BLOCK_BITS (BLOCK_BITS - 2)
 #define BLOCK_MASK ((UINT64_C(1) << (47 - BLOCK_BITS)) - 1)
 #define OBJECT_BITS 24
 #define IS_NEW (UINT64_C(1) << (OBJECT_BITS - 1))
 
-static const uint32_t lock_bits[LOCK_LEVELS] = {FEWEST_BITS, 13, 17, 21};
+static const uint32_t lock_bits[LOCK_LEVELS] = {FEWEST_BITS, 13, 17, 21, 13};
 static uint64_t *lock_levels[LOCK_LEVELS];
 
 /* What the slot has of the address. */
@@ -98,8 +99,12 @@ static uint64_t *lock_level(int level, bool make) {
     return slots;
 }
 
+/* (The lines of a block's parts differ in what isn't known by the line.) */
 static uint64_t *lock_line(uint64_t *slots, int level, uintptr_t lock) {
-    return &slots[block_line(lock >> BLOCK_BITS & BLOCK_MASK, lock_bits[level]) * LOCK_WAYS];
+    uint64_t line = block_line(lock >> BLOCK_BITS & BLOCK_MASK, lock_bits[level]);
+    if (RARELY(level == SPREAD))
+        line = (line + (own_way(lock) << FEWEST_BITS)) & ((UINT64_C(1) << lock_bits[level]) - 1);
+    return &slots[line * LOCK_WAYS];
 }
 
 /* No lock has key 0, so an empty slot is of none. */
@@ -161,7 +166,7 @@ static bool fill_lock(uintptr_t lock, uint32_t object) {
     int main_level = LOAD(&lock_main);
     if (LIKELY(fill_in_level(main_level, lock, word)))
         return true;
-    if (main_level + 1 < LOCK_LEVELS && is_crowded(ADD(&lock_overflows, 1), lock_bits[main_level])) {
+    if (main_level + 1 < SPREAD && is_crowded(ADD(&lock_overflows, 1), lock_bits[main_level])) {
         STORE(&lock_overflows, 0);
         STORE(&lock_main, main_level + 1);
     }

@@ -875,9 +875,17 @@ static bool is_recursion(const pthread_mutex_t *lock) {
     return (lock->__data.__kind & MUTEX_KIND_BITS) == PTHREAD_MUTEX_RECURSIVE_NP && lock->__data.__count > 1;
 }
 
+static bool is_passing(uint8_t mode) { return raw_plain(mode) % TRIES == MODE_REC_READ; }
+
+/* A reader that passes waiting writers, and has the lock as such a one: it can't wait, and excludes nobody else than before. */
+static bool is_read_again(const struct held *h, uint8_t mode, enum kind kind) {
+    return kind == KIND_RWLOCK && !h->is_wish && is_passing((uint8_t)mode_of(h)) && is_passing(mode);
+}
+
 /* Whether what this thread has taken is what it holds already, once more. */
-static bool is_same_hold(uintptr_t lock, enum kind kind) {
-    return kind == KIND_RECURSIVE || kind == KIND_ONCE || (kind == KIND_MUTEX && is_recursion((const pthread_mutex_t *)lock));
+static bool is_same_hold(const struct held *h, uint8_t mode, enum kind kind) {
+    return kind == KIND_RECURSIVE || kind == KIND_ONCE || (kind == KIND_MUTEX && is_recursion((const pthread_mutex_t *)h->lock)) ||
+           is_read_again(h, mode, kind);
 }
 
 /* Whether the thread can't have this hold any more, since it has taken the lock with success: only a reader may do that. */
@@ -895,7 +903,7 @@ static void end_stale(struct thread *t, uintptr_t lock, uint8_t mode, uintptr_t 
 /* Whether a lock that is taken is only held once more. */
 __attribute__((noinline)) static bool take_again(struct thread *t, uint32_t held, uint8_t mode, enum kind kind, uintptr_t caller) {
     struct held *h = &t->entries[held].held;
-    bool is_same = is_same_hold(h->lock, kind);
+    bool is_same = is_same_hold(h, mode, kind);
     if (is_same) {
         h->depth++;
         t->handed_more--; /* as if that was no call: the lock is held as before */

@@ -343,9 +343,14 @@ class Thread:
     def newest(self, slot):
         return next((h for h in reversed(self.held) if h[0] == slot), None)
 
+    def is_same_hold(self, again, what, slot):
+        """Whether what is taken is held already, once more: of a recursive mutex, or by a reader that passes waiting writers."""
+        is_recursive = kind_of(slot) == "made" and self.kinds.get(slot) == RECURSIVE
+        return is_recursive or (again[2].endswith("rr") and self.mode(what, slot).endswith("rr"))
+
     def take_or_again(self, what, slot, life):
         again = self.newest(slot)
-        if again and kind_of(slot) == "made" and self.kinds.get(slot) == RECURSIVE:
+        if again and self.is_same_hold(again, what, slot):
             again[3] += 1
         else:
             self.take(slot, life, self.mode(what, slot))
