@@ -2,7 +2,6 @@ package java.lockdep;
 
 import java.lang.invoke.VarHandle;
 import java.lang.ref.WeakReference;
-import java.util.ArrayList;
 import java.util.Arrays;
 
 /**
@@ -50,8 +49,8 @@ final class Task {
     final Known life;
     /** What it stands at or waits for, for Provoke; null if threads aren't held back. */
     final Stand stand;
-    /** What it took without a record, one entry for each level. */
-    private ArrayList<Object> leftOut;
+    /** What it took without a record; null if it never did that. */
+    private LeftOut leftOut;
     private Known failed;
     private volatile boolean hasDropped;
     /** Those that were looked up, by the last bits of their hashes. */
@@ -160,7 +159,7 @@ final class Task {
             again.levels++;
             return;
         }
-        if (leftOut != null && isLeftOut(object)) {
+        if (leftOut != null && leftOut.has(object)) {
             leftOut.add(object);
             return;
         }
@@ -190,14 +189,6 @@ final class Task {
             if (held[at].object == object) return held[at];
         }
         return null;
-    }
-
-    @Apart
-    private boolean isLeftOut(Object object) {
-        for (Object one : leftOut) {
-            if (one == object) return true;
-        }
-        return false;
     }
 
     @Within
@@ -503,7 +494,7 @@ final class Task {
 
     @Apart
     private void leaveOut(Object what) {
-        if (leftOut == null) leftOut = new ArrayList<>();
+        if (leftOut == null) leftOut = new LeftOut();
         leftOut.add(what);
         if (depth == MOST_HELD) beyondHeld++;
         else fullTraces++;
