@@ -30,6 +30,7 @@ ADVICE: dict[str, str] = {
     "unwritten": ON_DISK,
     "still-running": "let these end before the command does",
     "unrewritten": "split methods that are too long, and have class loaders find java.lockdep; with LOCKDEP_JAVA_WHY=1 the recorder says why each class stays",
+    "unrewritten-methods": "split those that are too long; with LOCKDEP_JAVA_WHY=1 the recorder says why each stays",
     "synchronizers": "look at these by hand, or use a Lock of java.util.concurrent.locks",
     "multiprocessing": "look at these by hand: no recorder sees them",
     "unguarded": "give this Python its lock, by PYTHON_GIL=1 in the environment",

@@ -141,6 +141,7 @@ COUNTS: dict[str, tuple[str, ...]] = {  # several sentences if recorders count d
     "unwritten": ("processes whose recording couldn't be written to its end" + AN_ORDER,),
     "still-running": ("processes that still ran at the end: what they did later isn't recorded",),
     "unrewritten": ("classes of the program's that couldn't be rewritten: what their code does with locks was not recorded",),
+    "unrewritten-methods": ("methods of the program's that couldn't be rewritten: what their own code does with locks was not recorded",),
     "synchronizers": ("classes of the program's on AbstractQueuedSynchronizer, and not of a Lock: who waits for their objects wasn't looked at",),
     "multiprocessing": ("locks of multiprocessing: these weren't looked at, so an order among them, or of them with others, is missing",),
     "unguarded": ("processes of a Python without its global lock, for which this recorder isn't made: what it recorded may be wrong",),

@@ -14,7 +14,6 @@ final class Constants {
     private static final int FIRST = 10;
     private static final int MOST = 65535;
     private static final int TEXT = 1;
-    private static final int INTEGER = 3;
     private static final int STRING = 8;
     private static final int NAME_AND_TYPE = 12;
 
@@ -31,8 +30,13 @@ final class Constants {
         countOfBootstraps = type.countOfBootstraps();
     }
 
-    private int add(String key) {
+    /** Where the next constant is written. If there is no room for it, nothing is. */
+    private Bytes next() {
         if (count >= MOST) throw new IllegalStateException("it has too many constants");
+        return added;
+    }
+
+    private int add(String key) {
         numbers.put(key, count);
         return count++;
     }
@@ -46,7 +50,7 @@ final class Constants {
         } catch (IOException tooLong) {
             throw new IllegalStateException(tooLong);
         }
-        added.put(TEXT).put(bytes.toByteArray(), 0, bytes.size());
+        next().put(TEXT).put(bytes.toByteArray(), 0, bytes.size());
         return add(text);
     }
 
@@ -55,7 +59,7 @@ final class Constants {
         String key = "\n" + kind + " " + first + " " + second;
         Integer known = numbers.get(key);
         if (known != null) return known;
-        added.put(kind).putShort(first);
+        next().put(kind).putShort(first);
         if (second != 0) added.putShort(second);
         return add(key);
     }
@@ -64,7 +68,7 @@ final class Constants {
         String key = "\n" + value;
         Integer known = numbers.get(key);
         if (known != null) return known;
-        added.put(INTEGER).putInt(value);
+        next().put(ClassFile.INTEGER).putInt(value);
         return add(key);
     }
 
@@ -94,19 +98,19 @@ final class Constants {
         String key = "\nhandle " + method;
         Integer known = numbers.get(key);
         if (known != null) return known;
-        added.put(ClassFile.HANDLE).put(Opcodes.H_INVOKESTATIC).putShort(method);
+        next().put(ClassFile.HANDLE).put(Opcodes.H_INVOKESTATIC).putShort(method);
         return add(key);
     }
 
     /** A dynamic call like another one, with another descriptor, and with another handle among its words. */
     int dynamicCall(int call, String descriptor, int word, int handle) {
         int at = type.bootstrap(type.part(call, 1));
+        int called = nameAndType(type.nameOfMember(call), descriptor);
+        next().put(ClassFile.DYNAMIC_CALL).putShort(countOfBootstraps++).putShort(called);
         bootstraps.put(type.bytes, at, at + 4);
         for (int each = 0; each < type.number(at + 2); each++) {
             bootstraps.putShort(each == word ? handle : type.number(at + 4 + 2 * each));
         }
-        int called = nameAndType(type.nameOfMember(call), descriptor);
-        added.put(ClassFile.DYNAMIC_CALL).putShort(countOfBootstraps++).putShort(called);
         return add("\ncall " + countOfBootstraps);
     }
 

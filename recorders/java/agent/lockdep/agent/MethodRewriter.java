@@ -38,6 +38,7 @@ final class MethodRewriter {
     /** Where constructors are called that are told their places. */
     private final Map<Integer, Integer> told = new HashMap<>();
     private boolean isChanged;
+    private Bytes written;
     /** Whether it enters its monitor by instructions. */
     private boolean isByItself;
     private int line;
@@ -67,13 +68,27 @@ final class MethodRewriter {
         lines = new Lines(type, method);
     }
 
-    /** Returns whether anything in the method is changed. */
+    /** Returns whether anything in the method is changed. One that can't be is refused before any of it is written. */
     boolean rewrite() {
         if (method.isSynchronized() && !new Frames(type, method, descriptor).keepThis())
                 throw new IllegalStateException("its method " + name + " changes `this`");
+        if (new Unmade(type, method).mayBeLocked())
+                throw new IllegalStateException("its method " + name + " locks an object that isn't made yet");
         passAll();
         if (method.isSynchronized()) wrap();
+        if (isChanged) written = code.write();
         return isChanged;
+    }
+
+    /** Whether the method may release what another one has taken: by calls, which are no part of a block as monitors are. */
+    boolean mayRelease() {
+        for (int at = method.start; at < method.end; at = type.after(at, method)) {
+            int opcode = type.opcode(at);
+            boolean isCall = opcode == Opcodes.INVOKEVIRTUAL || opcode == Opcodes.INVOKEINTERFACE;
+            if (opcode < Opcodes.INVOKEVIRTUAL || opcode > Opcodes.INVOKEDYNAMIC || !wanted.matters(type.number(at + 1))) continue;
+            if (opcode == Opcodes.INVOKEDYNAMIC || isCall && Calls.isRelease(type.nameOfMember(type.number(at + 1)))) return true;
+        }
+        return false;
     }
 
     private void passAll() {
@@ -91,7 +106,6 @@ final class MethodRewriter {
 
     /** The method as it is now. */
     void write(Bytes out) {
-        Bytes written = code.write();
         out.putShort(isByItself ? method.access & ~Opcodes.ACC_SYNCHRONIZED : method.access);
         out.put(type.bytes, method.begin + 2, method.attribute).put(written);
         out.put(type.bytes, method.attribute + 6 + type.longNumber(method.attribute + 2), method.finish);
@@ -156,7 +170,7 @@ final class MethodRewriter {
     }
 
     private void rewriteCall(Calls.Call call, int at, int next) {
-        if (call.owner.equals("java/util/Collections") && call.name.startsWith("synchronized")) noteMade(at, next, -1);
+        if (call.owner.equals("java/util/Collections") && Calls.isWrapper(call)) noteMade(at, next, -1);
         int depth = source.isOfJdk ? 0 : Calls.depthOfStart(call);
         if (depth == 2) hook(before(at).put(Opcodes.DUP2).put(Opcodes.POP), "starts", OF_OBJECT);
         else if (depth == 1) hook(before(at).put(Opcodes.DUP), "starts", OF_OBJECT);
@@ -178,6 +192,7 @@ final class MethodRewriter {
         int call = type.number(at + 1);
         String made = type.descriptor(call);
         int bootstrap = type.bootstrap(type.part(call, 1));
+        if (!Calls.makesReference(type, bootstrap)) return;
         for (int word = 0; word < type.number(bootstrap + 2); word++) {
             int handle = type.number(bootstrap + 4 + 2 * word);
             if (type.kind(handle) != ClassFile.HANDLE || !Calls.mayBeReference(type, handle)) continue;
@@ -200,12 +215,28 @@ final class MethodRewriter {
         if (!news.isEmpty() && isSameClass(type.number(news.peek() + 1), type.part(called, 1))) {
             int made = news.pop();
             if (wanted.isTold(method, called)) tell(called, at);
-            boolean isKept = type.opcode(made + 3) == Opcodes.DUP;
-            if (isKept && (wanted.matters(type.number(made + 1)) || isKeptInLockedField(next))) noteMade(at, next, at);
+            boolean isNoted = wanted.matters(type.number(made + 1)) || isKeptInLockedField(next);
+            if (isNoted && isOnStack(made, at)) noteMade(at, next, at);
         } else if (method.isConstructor && news.isEmpty() && wanted.locking.isOfItself()
-                && !type.owner(called).equals(type.name)) {
+                && !type.owner(called).equals(type.name) && isOfThis(at)) {
             hook(behind(next).put(ALOAD_0), "born", OF_OBJECT);
         }
+    }
+
+    /** Whether an object that is being made is on the stack once its constructor has run, and nothing else above it. */
+    private boolean isOnStack(int made, int at) {
+        return type.opcode(made + 3) == Opcodes.DUP && new Depth(type, method).stays(2, made + 4, at);
+    }
+
+    /** Whether the constructor that is called is one for `this`, which stays in its variable. */
+    private boolean isOfThis(int call) {
+        if (new Frames(type, method, descriptor).isStoredOver()) return false;
+        Depth depth = new Depth(type, method);
+        boolean isFound = false;
+        for (int at = method.start; at < call && !isFound; at = type.after(at, method)) {
+            isFound = type.opcode(at) == ALOAD_0 && depth.stays(1, at + 1, call);
+        }
+        return isFound;
     }
 
     private boolean isSameClass(int one, int other) {
