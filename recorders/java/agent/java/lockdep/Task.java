@@ -281,6 +281,15 @@ final class Task {
         if (!lock.target.isReentrant) lock.target.addHolder(this);
     }
 
+    /** A lock was taken by a call that waits without a limit; it is what was wanted, unless other calls came in between. */
+    @Within
+    void got(Known lock, int site) {
+        Held wanted = wish;
+        boolean isWanted = wanted != null && wanted.lock == lock.target && wanted.isReader() == lock.isReader;
+        if (isWanted) grant(lock, wanted, Modes.Manner.WAITS, site);
+        else took(lock, Modes.Manner.WAITS, site);
+    }
+
     /** What was wanted without a record was taken. */
     @Apart
     private void takeAgain(Known lock) {

@@ -46,6 +46,7 @@ final class Calls {
     private static final int FLAGS = 3;
     private static final Set<String> OF_RUNTIME = Set.of("halt(I)V");
     private static final String MAKER = "newCondition()L" + CONDITION + ";";
+    private static final Set<String> STAYING = Set.of("lock()V", "unlock()V", "tryLock()Z", MAKER, "start()V");
     private static final Words STARTERS = new Words(Set.of("java/lang/Runtime", "java/lang/ProcessBuilder"));
     private static final Words COLLECTIONS = new Words(Set.of("java/util/Collections"));
     private static final Set<String> SIGNATURES = new HashSet<>(Set.of(MAKER));
@@ -127,6 +128,14 @@ final class Calls {
         if (OF_STAMPED.contains(signature)) return call.owner.equals(STAMPED) ? STAMPED : null;
         if (VIEWS.containsKey(signature)) return call.owner.equals(STAMPED) ? STAMPED : null;
         return OF_RUNTIME.contains(signature) && call.owner.equals("java/lang/Runtime") ? "java/lang/Runtime" : null;
+    }
+
+    /**
+     * Whether a call stays, and calls of Hooks are put before or after it, which get its object and its place: then nothing
+     * of the recorder is among the frames of what it calls, and an error, as for null, says what it says without it.
+     */
+    static boolean stays(Call call) {
+        return STAYING.contains(call.name + call.descriptor);
     }
 
     /** Whether the call of Hooks gets the place of the call. */

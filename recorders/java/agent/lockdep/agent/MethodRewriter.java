@@ -21,6 +21,9 @@ final class MethodRewriter {
     private static final int ALOAD_0 = 42;
     private static final String OF_OBJECT = "(Ljava/lang/Object;)V";
     private static final String OF_OBJECT_AND_SITE = "(Ljava/lang/Object;I)V";
+    private static final String OF_LOCK_AND_SITE = "(Ljava/util/concurrent/locks/Lock;I)V";
+    private static final String OF_CONDITION =
+            "(Ljava/util/concurrent/locks/Lock;Ljava/util/concurrent/locks/Condition;)Ljava/util/concurrent/locks/Condition;";
 
     private final ClassFile type;
     private final ClassFile.Method method;
@@ -176,12 +179,38 @@ final class MethodRewriter {
         else if (depth == 1) hook(before(at).put(Opcodes.DUP), "starts", OF_OBJECT);
         String receiver = Calls.receiver(call, wanted.hierarchy);
         if (receiver == null) return;
+        isChanged = true;
+        if (Calls.stays(call)) {
+            surround(call.name, at, next);
+            return;
+        }
         boolean hasSite = Calls.hasSite(call);
         if (hasSite) site(before(at));
         int end = call.descriptor.indexOf(')');
         String words = call.descriptor.substring(1, end) + (hasSite ? "I" : "");
         hook(code.instead(at), call.name, "(L" + receiver + ";" + words + call.descriptor.substring(end));
-        isChanged = true;
+    }
+
+    /** Adds what is to be known before a call that has no words but its object, and after it, for which that is kept on the stack. */
+    private void surround(String called, int at, int next) {
+        Bytes first = before(at).put(Opcodes.DUP);
+        switch (called) {
+            case "lock":
+                hook(site(first.put(Opcodes.DUP)), "locks", OF_LOCK_AND_SITE);
+                hook(site(behind(next)), "locked", OF_LOCK_AND_SITE);
+                break;
+            case "unlock":
+                hook(site(first), "unlocks", OF_LOCK_AND_SITE);
+                break;
+            case "tryLock":
+                hook(site(behind(next)), "tried", "(Ljava/util/concurrent/locks/Lock;ZI)Z");
+                break;
+            case "newCondition":
+                hook(behind(next), "made", OF_CONDITION);
+                break;
+            default:
+                hook(site(first), "begins", OF_OBJECT_AND_SITE);
+        }
     }
 
     /**
