@@ -1,4 +1,4 @@
-package lockdep.agent;
+package java.lockdep.agent;
 
 import java.lang.invoke.LambdaMetafactory;
 import java.util.HashMap;

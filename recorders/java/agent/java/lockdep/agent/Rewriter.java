@@ -1,4 +1,4 @@
-package lockdep.agent;
+package java.lockdep.agent;
 
 import java.io.IOException;
 import java.io.InputStream;
@@ -22,7 +22,7 @@ final class Rewriter implements ClassFileTransformer {
         "java/lang/AbstractStringBuilder", "java/lang/String", "java/util/concurrent/ConcurrentHashMap",
         "java/util/concurrent/locks/", "java/io/FileOutputStream", "java/io/FileDescriptor", "java/lockdep/",
                 "jdk/internal/",
-        "sun/instrument/", "sun/launcher/", "lockdep/agent/"};
+        "sun/instrument/", "sun/launcher/", "lockdep_java_agent/"};
     private static final String[] ALWAYS = {"java/lang/StringBuffer"};
 
     private final String[] jdk;
