@@ -45,6 +45,10 @@ final class MethodRewriter {
     /** Whether it enters its monitor by instructions. */
     private boolean isByItself;
     private int line;
+    /** The instruction that is looked at. */
+    private int here;
+    /** Of a method without lines: where constructors are called, in the file. */
+    private final List<Integer> unlined = new ArrayList<>();
 
     /** An object that is noted: its line, its number there, and where its constructor is called, or -1 if it has none. */
     private static final class Noted {
@@ -102,6 +106,7 @@ final class MethodRewriter {
             next = type.after(at, method);
             int own = all[at - method.start];
             if (own != 0) line = own;
+            here = at;
             int opcode = bytes[at] & 255;
             if (opcode >= Opcodes.INVOKEVIRTUAL) rewrite(opcode, at, next);
         }
@@ -152,7 +157,12 @@ final class MethodRewriter {
     }
 
     private Bytes site(Bytes to) {
-        return number(to, Site.add(source, name, line, 1));
+        return number(to, Site.add(source, name, where(), 1));
+    }
+
+    /** The line; without lines, the place in the code, as a number that isn't one of a line. */
+    private int where() {
+        return line > 0 ? line : method.start - here;
     }
 
     private Bytes number(Bytes to, int value) {
@@ -167,7 +177,9 @@ final class MethodRewriter {
 
     private void rewriteCall(int opcode, int at, int next) {
         int called = type.number(at + 1);
-        if (opcode == Opcodes.INVOKESPECIAL && type.isConstructor(called)) endNew(called, at, next);
+        boolean isConstructor = opcode == Opcodes.INVOKESPECIAL && type.isConstructor(called);
+        if (isConstructor && line == 0) unlined.add(at);
+        if (isConstructor) endNew(called, at, next);
         else if (wanted.matters(called)) rewriteCall(new Calls.Call(opcode, type.owner(called),
                 type.nameOfMember(called), type.descriptor(called)), at, next);
     }
@@ -280,16 +292,18 @@ final class MethodRewriter {
 
     /** The object on the stack was made on this line. */
     private void noteMade(int at, int next, int constructor) {
-        int ordinal = madeOnLine.getOrDefault(line, 0) + 1;
-        madeOnLine.put(line, ordinal);
-        int site = Site.add(source, name, line, ordinal);
-        noted.add(new Noted(line, ordinal, constructor));
+        int ordinal = line > 0 ? madeOnLine.getOrDefault(line, 0) + 1 : 1;
+        int site = Site.add(source, name, where(), ordinal);
+        if (line > 0) {
+            madeOnLine.put(line, ordinal);
+            noted.add(new Noted(line, ordinal, constructor));
+        }
         hook(number(behind(next).put(Opcodes.DUP), site), "made", OF_OBJECT_AND_SITE);
     }
 
     /** A constructor looks for its caller if it isn't told where it is called, and that costs much. */
     private void tell(int called, int at) {
-        int site = Site.addCall(source, name, descriptor, line, type.owner(called).replace('/', '.'));
+        int site = Site.addCall(source, name, descriptor, where(), type.owner(called).replace('/', '.'));
         hook(number(before(at), site), "makes", "(I)V");
         told.put(site, at);
     }
@@ -301,6 +315,7 @@ final class MethodRewriter {
             int at = each.constructor < 0 ? -1 : code.placeOf(each.constructor);
             OnLine.note(source, name, descriptor, each.line, each.ordinal, at);
         }
+        for (int at : unlined) OnLine.notePlace(source, name, descriptor, code.placeOf(at), at - method.start);
     }
 
     // ---- Synchronized methods.
@@ -320,6 +335,7 @@ final class MethodRewriter {
     private void wrap() {
         isByItself = isToEnterByItself();
         line = lines.first;
+        here = method.start;
         for (int at = method.start; at < method.end; at = type.after(at, method)) {
             boolean isReturn = type.opcode(at) >= Opcodes.IRETURN && type.opcode(at) <= Opcodes.RETURN;
             if (isReturn) exits(before(at));
