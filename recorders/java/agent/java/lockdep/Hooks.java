@@ -214,7 +214,7 @@ public final class Hooks {
         Task task = Task.begin();
         if (task == null) return;
         try {
-            task.got(task.lock(lock), site);
+            task.got(lock, site);
         } catch (Throwable error) {
             task.abandon(error);
             return;

@@ -45,6 +45,8 @@ final class Task {
     private int fresh;
     /** What it waits for: the newest held lock. */
     private Held wish;
+    /** Of which lock, or part of one, that was wanted. */
+    private Known wishOf;
     /** What its thread is to who joins it; null if it wasn't seen to start. */
     final Known life;
     /** What it stands at or waits for, for Provoke; null if threads aren't held back. */
@@ -254,6 +256,7 @@ final class Task {
         Held entry = push(lock.target, null, Modes.of(lock.isReader, manner), site);
         if (entry == null) return null;
         wish = entry;
+        wishOf = lock;
         if (isNew()) Recording.write(this);
         return entry;
     }
@@ -283,11 +286,9 @@ final class Task {
 
     /** A lock was taken by a call that waits without a limit; it is what was wanted, unless other calls came in between. */
     @Within
-    void got(Known lock, int site) {
-        Held wanted = wish;
-        boolean isWanted = wanted != null && wanted.lock == lock.target && wanted.isReader() == lock.isReader;
-        if (isWanted) grant(lock, wanted, Modes.Manner.WAITS, site);
-        else took(lock, Modes.Manner.WAITS, site);
+    void got(Object object, int site) {
+        if (wish != null && wishOf.get() == object) grant(wishOf, wish, Modes.Manner.WAITS, site);
+        else took(lock(object), Modes.Manner.WAITS, site);
     }
 
     /** What was wanted without a record was taken. */
