@@ -230,7 +230,7 @@ class Report:
         news = "new: " + news if self.wishes.known else news
         is_named = self.page not in ("", STANDARD_OUTPUT)
         say("%s; look at %s" % (news, self.page) if is_named else "%s, recorded in %s" % (news, self.recording.folder))
-        if not has_addr2line():
+        if self.sources.symbols.is_asked and not has_addr2line():
             say("addr2line isn't there, so places are modules and offsets; it is a part of binutils")
         stream = StringIO()
         width = width_of(sys.stderr)
