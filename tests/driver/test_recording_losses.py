@@ -115,6 +115,19 @@ class LeftOut(unittest.TestCase):
             self.assertIn(status, (seen.LEFT_OUT, seen.NOTHING), code)
             self.assertIn("  %s: %s" % (code, ADVICE[code]), said)
 
+    def advice(self, code, recorder):
+        """What is said to do about a count of a recorder."""
+        with open(os.path.join(self.folder, "summary.json"), "w", encoding="utf-8") as file:
+            file.write(summary.json_of(summary.Summary(), recorder))
+        return next(line for line in self.judged(code)[1].splitlines() if code + ": " in line).partition(code + ": ")[2]
+
+    def test_advice_is_for_the_recorder_that_was_used(self):
+        for recorder, has_frames in ("pthread", True), ("java", False), ("python", False), ("go", False), ("rust", False), ("embed", False):
+            self.assertEqual("--frames" in self.advice("beyond-classes", recorder), has_frames, recorder)
+            self.assertEqual("signal handler" in self.advice("interrupted", recorder), recorder != "java", recorder)
+        self.assertNotIn("signal handler", losses.words_of("interrupted", "java"))
+        self.assertIn("signal handler", losses.words_of("interrupted", "python"))
+
     def test_each_count_that_is_accepted_is_judged(self):
         for code in self.acceptable:
             status, said = self.judged(code, code)

@@ -5,6 +5,7 @@ ROOM = "record a shorter run, or raise the limits of memory and of a file's size
 ENDS = "call ldr_end for each task at its end, and ldr_flush for one that hangs"
 ON_DISK = "record it again with more space on the disk"
 ALONE = "record these by themselves"
+LESS = "record a run that does less"
 
 ADVICE: dict[str, str] = {
     "refused-processes": "raise the limits of memory and of a file's size (`ulimit -v`, `ulimit -f`)",
@@ -13,7 +14,7 @@ ADVICE: dict[str, str] = {
     "no-room": ROOM,
     "unknown-memory": "record a build without an allocator of its own, as jemalloc or tcmalloc, or a shorter run",
     "full-traces": "record a shorter run",
-    "beyond-classes": "name classes by fewer callers, as by --frames 1, or record a run that does less",
+    "beyond-classes": LESS,
     "beyond-traces": "record a run with fewer threads",
     "fork-handlers": "record a build without an allocator of its own, as jemalloc or tcmalloc, or fork where fewer locks are held",
     "handlers-beyond-sets": "record runs in which fewer signal handlers take locks",
@@ -30,6 +31,7 @@ ADVICE: dict[str, str] = {
     "unwritten": ON_DISK,
     "still-running": "let these end before the command does",
     "unrewritten": "split methods that are too long, and have class loaders find java.lockdep; with LOCKDEP_JAVA_WHY=1 the recorder says why each class stays",
+    "unrewritten-methods": "split those that are too long; with LOCKDEP_JAVA_WHY=1 the recorder says why each stays",
     "synchronizers": "look at these by hand, or use a Lock of java.util.concurrent.locks",
     "multiprocessing": "look at these by hand: no recorder sees them",
     "unguarded": "give this Python its lock, by PYTHON_GIL=1 in the environment",
@@ -63,3 +65,13 @@ ADVICE: dict[str, str] = {
     "ungathered-signals": "look at each of them by `lockdep confirm`, or record with --signals off",
     "unplaced-traces": "write the places of each task to a file",
 }
+
+# Where one recorder has another advice.
+OF_RECORDERS: dict[str, dict[str, str]] = {
+    "pthread": {"beyond-classes": "name classes by fewer callers, as by --frames 1, or " + LESS},
+    "java": {"interrupted": "give threads more stack, as by -Xss4m, and end none by Thread.stop"},
+}
+
+
+def advice_of(code: str, recorder: str) -> str:
+    return OF_RECORDERS.get(recorder, {}).get(code, ADVICE[code])

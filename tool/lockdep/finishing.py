@@ -20,8 +20,8 @@ MOST_NAME = 53  # bytes of a class's name, which leaves room for the number of a
 REST = "#rest"  # behind a class: all its locks that have no name of their own
 
 # What is counted, in the order of SUMMARY.
-LOSSES = ("unrewritten", "synchronizers", "multiprocessing", "gevent", "eventlet", "unguarded", "changed-root", "unwritten", "full-traces",
-          "beyond-classes", "beyond-traces", "beyond-held", "handlers-beyond-sets", "unfollowed-handlers", "retried-tries", "reentered",
+LOSSES = ("unrewritten", "unrewritten-methods", "synchronizers", "multiprocessing", "gevent", "eventlet", "unguarded", "changed-root", "unwritten",
+          "full-traces", "beyond-classes", "beyond-traces", "beyond-held", "handlers-beyond-sets", "unfollowed-handlers", "retried-tries", "reentered",
           "interrupted", "unseen-releases", "still-running", "threads-alike", "repeats")
 
 

@@ -45,8 +45,8 @@ REASONS: dict[str, str] = {
                  "orders may be missed or wrong; record a build without it",
     "python-nothing": "it took no lock of threading or asyncio; the interpreter's own are seen by `--recorder pthread`",
     "python-off": "no Python was started, or one without its environment, as by -I, -E, -S or env -i",
-    "java-nothing": "its own classes took no monitor and no lock of java.util.concurrent.locks; those of the JDK are seen if LOCKDEP_JAVA_JDK "
-                    "names them ({README:java})",
+    "java-nothing": "its own classes took no monitor and no lock of java.util.concurrent.locks, but perhaps by reflection or a MethodHandle, which "
+                    "isn't seen; those of the JDK are seen if LOCKDEP_JAVA_JDK names them ({README:java})",
     "java-off": "no Java was started, or one without its environment, as by env -i",
     "rust-nothing": "it took none of the locks of the crate lockdep_record, as if what takes locks uses std::sync itself",
     "rust-off": "nothing that was run is built with the crate lockdep_record and `--cfg lockdep`, as by RUSTFLAGS='--cfg lockdep', or it runs "
@@ -134,13 +134,15 @@ COUNTS: dict[str, tuple[str, ...]] = {  # several sentences if recorders count d
     "reentered": ("calls from a signal handler that interrupted the recorder, or that one left by a jump" + AN_ORDER,
                   "calls from a signal handler or a finaliser that interrupted the recorder" + AN_ORDER,
                   "operations that interrupted the recorder, as in a signal handler" + AN_ORDER),
-    "interrupted": ("threads that an error of a signal handler interrupted in the recorder: their traces end there",),
+    "interrupted": ("threads that an error of a signal handler interrupted in the recorder: their traces end there",
+                    "threads that an error interrupted in the recorder, as of a full stack: their traces end there"),
     "unseen-releases": ("releases of locks that the thread wasn't seen to take: another thread, or nobody, was seen to hold them",
                         "releases of locks by a thread that did not take them", "releases of locks that were not seen to be taken"),
     "namespaces": ("libraries loaded by dlmopen into a namespace of their own: their locks aren't seen",),
     "unwritten": ("processes whose recording couldn't be written to its end" + AN_ORDER,),
     "still-running": ("processes that still ran at the end: what they did later isn't recorded",),
     "unrewritten": ("classes of the program's that couldn't be rewritten: what their code does with locks was not recorded",),
+    "unrewritten-methods": ("methods of the program's that couldn't be rewritten: what their own code does with locks was not recorded",),
     "synchronizers": ("classes of the program's on AbstractQueuedSynchronizer, and not of a Lock: who waits for their objects wasn't looked at",),
     "multiprocessing": ("locks of multiprocessing: these weren't looked at, so an order among them, or of them with others, is missing",),
     "unguarded": ("processes of a Python without its global lock, for which this recorder isn't made: what it recorded may be wrong",),
@@ -212,7 +214,7 @@ UNLOST = RECORDED + BREACHES + tuple(NOTES) + ("objects", "calls seen", "repeats
 # Which of several sentences a recorder means, if it isn't the first.
 SENTENCES = {
     "python": {"reentered": 1, "unfollowed-handlers": 1, "threads-alike": 1, "unreached-runs": 1},
-    "java": {"reentered": 1, "threads-alike": 1},
+    "java": {"interrupted": 1, "reentered": 1, "threads-alike": 1},
     "rust": {"beyond-traces": 1, "reentered": 2, "unseen-releases": 1, "threads-alike": 2},
     "go": {"beyond-traces": 1, "unseen-releases": 2},
     "embed": {"lost-threads": 1, "beyond-held": 1, "unseen-releases": 2, "threads-alike": 3},

@@ -24,6 +24,7 @@ NOT_JUDGED = 2
 LIBRARIES = os.path.join(os.path.dirname(os.path.abspath(__file__)), "libraries.known")  # known findings of libraries, which come with the tool
 PAGE = "report.html"
 STANDARD_OUTPUT = "-"
+IN_PART = "what was left out wasn't checked, so this run isn't judged beyond what was found"
 LISTED = "RECORDED"  # the file that lists what a recording made in its folder
 
 
@@ -229,7 +230,7 @@ class Report:
         news = "new: " + news if self.wishes.known else news
         is_named = self.page not in ("", STANDARD_OUTPUT)
         say("%s; look at %s" % (news, self.page) if is_named else "%s, recorded in %s" % (news, self.recording.folder))
-        if not has_addr2line():
+        if self.sources.symbols.is_asked and not has_addr2line():
             say("addr2line isn't there, so places are modules and offsets; it is a part of binutils")
         stream = StringIO()
         width = width_of(sys.stderr)
@@ -271,6 +272,8 @@ class Report:
             if self.blocked:
                 self.say_blocked()
             self.say_end()
+            if self.is_judged_in_part:
+                say(IN_PART)
         elif not self.recording.is_whole:
             self.say_of_known()
             raise Refusal("%s was found, but what was left out wasn't checked, so this run isn't judged" % nothing)
@@ -298,10 +301,16 @@ class Report:
         return any(finding.is_confirmed or not self.wishes.confirmed_only for finding in self.new)
 
     @property
+    def is_judged_in_part(self) -> bool:
+        """Whether something was found, and the status is that of a run that isn't judged, since something was left out."""
+        is_by_option = self.is_error and self.wishes.error_exitcode is not None
+        return (self.has_new or self.is_hung) and not self.recording.is_whole and not is_by_option
+
+    @property
     def status(self) -> int:
         if self.is_error and self.wishes.error_exitcode is not None:
             return self.wishes.error_exitcode
-        if (self.has_new or self.is_hung) and not self.recording.is_whole:
+        if self.is_judged_in_part:
             return NOT_JUDGED
         return NOT_JUDGED if self.is_unwritten else self.recording.status
 

@@ -4,11 +4,11 @@ from __future__ import annotations
 import os
 
 from . import losses
-from .advice import ADVICE
+from .advice import ADVICE, advice_of
 from .folder import SIGNALS as SIGNALS_FOLDER
 from .losses import counted
 from .saying import say
-from .summary import Summary
+from .summary import Summary, recorder_of
 
 # Statuses of `record --summary`. That of a recording's end has no difference between the first two.
 ALL, LEFT_OUT, NOTHING = 0, 1, 2
@@ -33,7 +33,7 @@ def say_what_was_seen(folder: str, summary: Summary, ended: int | None = None, i
     """Says what was recorded and why nothing was; `ended` is the command's status, if it has just ended. The result is NOTHING if nothing of
     the program was seen, or nothing of one of its processes. All locks are the program's own if the recorder sees no others."""
     say_counts(folder, summary)
-    say_advice(summary, accepted)
+    say_advice(folder, summary, accepted)
     say_lists(summary)
     reasons = summary.reasons()
     if summary.number("library-only") and "library-only" not in accepted:
@@ -92,13 +92,14 @@ def say_counts(folder: str, summary: Summary) -> None:
         say("a clean report says nothing of what was left out; %s says more" % os.path.join(folder, "SUMMARY"))
 
 
-def say_advice(summary: Summary, accepted: Sequence[str]) -> None:
+def say_advice(folder: str, summary: Summary, accepted: Sequence[str]) -> None:
     """What is to be done about what was left out. A program of which nothing was seen can't be accepted, and its reason says what to do."""
     told = (*accepted, "refused-processes")
     lost = [count.code for count in summary.counts if count.lost() and count.code in ADVICE and count.code not in told]
     if lost:
+        recorder = recorder_of(folder)
         say_lines("to have all of it judged, do as follows, or accept it by `lockdep run --accept-left-out CODE`:",
-                  ["%s: %s" % (code, ADVICE[code]) for code in lost])
+                  ["%s: %s" % (code, advice_of(code, recorder)) for code in lost])
 
 
 # ---- What is listed.

@@ -127,13 +127,13 @@ def main(words: list[str]) -> int:
         return 0
     sources = Sources()
     given = folder_of(words, sources)
-    if not has_addr2line():
-        sys.stderr.write("where: addr2line isn't there, so places are modules and offsets; it is a part of binutils\n")
     lines = text_of(sys.stdin.buffer.read()).split("\n")
     lines = lines[:-1] if lines[-1] == "" else lines
     if not lines:
         raise Refusal("there is no text: was what should write it refused?")
     read = wanted(lines, Reader(sources, given))
+    if sources.symbols.is_asked and not has_addr2line():
+        sys.stderr.write("where: addr2line isn't there, so places are modules and offsets; it is a part of binutils\n")
     if not any(sources.read_folders.values()):
         write_text(read, sources)
         raise Refusal("there is no recording: no folder was given, `%s` has none, and the text names no trace of one" % given)

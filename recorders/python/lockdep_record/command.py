@@ -111,7 +111,14 @@ def stay(own_end):
     os.read(own_end, 1)
 
 
-def wait_for(child, witness):
+# Why a program may go on after Ctrl-C, and what ends it, by the recorder.
+STILL_RUNS = {
+    "python": "as Python does while it waits for its threads; a second Ctrl-C ends that",
+    "java": "as Java does until its shutdown hooks have ended; SIGKILL ends it, and what is recorded stays",
+}
+
+
+def wait_for(child, witness, recorder):
     """Waits for the command and passes signals on to it. What a terminal or `timeout` sends, it sends to the command too."""
     interrupted = None
     while True:
@@ -120,7 +127,7 @@ def wait_for(child, witness):
             break
         came = next_signal(interrupted)
         if came is None:
-            say_it_runs()
+            say_it_runs(recorder)
             interrupted = float("inf")
         elif came.si_signo != signal.SIGCHLD:
             is_of_group = os.getpgid(child) == os.getpgrp()
@@ -141,11 +148,9 @@ def next_signal(interrupted):
     return signal.sigtimedwait(awaited, max(0, interrupted + PATIENCE - monotonic()))
 
 
-def say_it_runs():
-    """A program of Python's that Ctrl-C has come to may go on, since its threads are waited for."""
+def say_it_runs(recorder):
     if RUN in os.environ and not os.environ.get("LOCKDEP_RUN_QUIET"):
-        print("lockdep: the command still runs, as Python does while it waits for its threads; a second Ctrl-C ends that",
-              file=sys.stderr, flush=True)
+        print("lockdep: the command still runs, " + STILL_RUNS[recorder], file=sys.stderr, flush=True)
 
 
 def command_end(status):
@@ -164,7 +169,7 @@ def record(folder, command, environment, then, is_chosen):
     block_signals()
     witness = Witness()
     child = start(command, environment)
-    status = wait_for(child, witness)
+    status = wait_for(child, witness, folder.recorder)
     try:
         folder.finish()
     except Refusal as refusal:

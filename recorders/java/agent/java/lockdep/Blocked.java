@@ -42,6 +42,6 @@ final class Blocked {
     private static int siteOf(ThreadInfo info) {
         if (info.getStackTrace().length == 0) return 0;
         StackTraceElement frame = info.getStackTrace()[0];
-        return Site.add(Source.of(frame.getClassName()), frame.getMethodName(), frame.getLineNumber(), 1);
+        return Site.add(Source.of(frame.getClassName()), frame.getMethodName(), Math.max(0, frame.getLineNumber()), 1);
     }
 }

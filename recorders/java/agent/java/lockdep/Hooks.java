@@ -5,6 +5,8 @@ import java.util.concurrent.TimeUnit;
 import java.util.concurrent.locks.Condition;
 import java.util.concurrent.locks.Lock;
 import java.util.concurrent.locks.ReadWriteLock;
+import java.util.concurrent.locks.ReentrantLock;
+import java.util.concurrent.locks.ReentrantReadWriteLock.WriteLock;
 import java.util.concurrent.locks.StampedLock;
 
 /**
@@ -146,17 +148,17 @@ public final class Hooks {
 
     // ---- Threads.
 
-    public static void start(Object thread, int site) {
+    /** A thread is about to start. */
+    public static void begins(Object thread, int site) {
         Task task = thread == null ? null : Task.begin();
-        if (task != null) {
-            try {
-                Known.started((Thread) thread, Site.of(site).ofThreads());
-                task.leave();
-            } catch (Throwable error) {
-                task.abandon(error);
-            }
+        if (task == null) return;
+        try {
+            Known.started((Thread) thread, Site.of(site).ofThreads());
+        } catch (Throwable error) {
+            task.abandon(error);
+            return;
         }
-        ((Thread) thread).start();
+        task.leave();
     }
 
     public static void join(Object thread, int site) throws InterruptedException {
@@ -191,16 +193,40 @@ public final class Hooks {
 
     // ---- Locks.
 
+    /** A lock is about to be taken by a call that waits. One of the JDK is written now, since the call may never end. */
     @Apart
-    public static void lock(Lock lock, int site) {
-        Wish wish = Wish.of(lock, Modes.Manner.WAITS, site);
-        boolean isTaken = false;
+    public static void locks(Lock lock, int site) {
+        Task task = lock == null ? null : Task.begin();
+        if (task == null) return;
         try {
-            lock.lock();
-            isTaken = true;
-        } finally {
-            wish.end(isTaken, site);
+            Known known = task.lock(lock);
+            if (known.isOfJdk) task.want(known, Modes.Manner.WAITS, site);
+        } catch (Throwable error) {
+            task.abandon(error);
+            return;
         }
+        task.leave();
+    }
+
+    /** That call has ended. */
+    @Apart
+    public static void locked(Lock lock, int site) {
+        Task task = Task.begin();
+        if (task == null) return;
+        try {
+            task.got(lock, site);
+        } catch (Throwable error) {
+            task.abandon(error);
+            return;
+        }
+        task.leave();
+    }
+
+    /** A reference to it is called, which has no frame in the program. */
+    static void lock(Lock lock, int site) {
+        locks(lock, site);
+        lock.lock();
+        locked(lock, site);
     }
 
     public static void lockInterruptibly(Lock lock, int site) throws InterruptedException {
@@ -217,9 +243,9 @@ public final class Hooks {
         }
     }
 
-    public static boolean tryLock(Lock lock, int site) {
-        boolean isTaken = lock.tryLock();
-        tried(lock, isTaken, site);
+    /** A try without a limit of time was made. */
+    public static boolean tried(Lock lock, boolean isTaken, int site) {
+        tried((Object) lock, isTaken, site);
         return isTaken;
     }
 
@@ -239,14 +265,29 @@ public final class Hooks {
         return isTaken;
     }
 
-    public static void unlock(Lock lock, int site) {
-        boolean isSeen = gives(lock, site);
-        lock.unlock();
-        if (!isSeen) gaveUnseen(lock);
+    /** A lock is about to be released. */
+    @Apart
+    public static void unlocks(Lock lock, int site) {
+        Task task = lock == null ? null : Task.begin();
+        if (task == null) return;
+        try {
+            Known known = task.lock(lock);
+            if (!task.gave(known, site) && mayRelease(lock)) task.gaveUnseen(known);
+        } catch (Throwable error) {
+            task.abandon(error);
+            return;
+        }
+        task.leave();
     }
 
-    public static Condition newCondition(Lock lock) {
-        Condition condition = lock.newCondition();
+    /** Whether the running thread isn't known to be refused when it releases a lock. */
+    private static boolean mayRelease(Lock lock) {
+        if (lock.getClass() == ReentrantLock.class) return ((ReentrantLock) lock).isHeldByCurrentThread();
+        return !(lock instanceof WriteLock) || ((WriteLock) lock).isHeldByCurrentThread();
+    }
+
+    /** A condition of a lock was made. */
+    public static Condition made(Lock lock, Condition condition) {
         Task task = Task.begin();
         if (task == null) return condition;
         try {

@@ -12,7 +12,7 @@ import java.util.concurrent.ConcurrentHashMap;
 public final class OnLine {
     private static final ConcurrentHashMap<String, OnLine> all = new ConcurrentHashMap<>();
 
-    /** The numbers of noted objects, by where in the code their constructors are called. */
+    /** The numbers of noted objects, or in a method without lines places, by where in the code their constructors are called. */
     private final Map<Integer, Integer> noted = new HashMap<>();
     private int mostNoted;
     private int[] seen = new int[0];
@@ -37,6 +37,20 @@ public final class OnLine {
     private synchronized void note(int ordinal, int at) {
         mostNoted = Math.max(mostNoted, ordinal);
         if (at >= 0) noted.put(at, ordinal);
+    }
+
+    /** Of a method without lines: where a constructor is called in the code, and where that was before the method was rewritten. */
+    public static void notePlace(Source source, String method, String descriptor, int at, int before) {
+        of(source.className, method, descriptor, 0).note(before, at);
+    }
+
+    /** Where in its code a frame without a line is, as it was before the method was rewritten. */
+    static int placeOf(StackWalker.StackFrame frame) {
+        return of(frame.getClassName(), frame.getMethodName(), frame.getDescriptor(), 0).placeAt(frame.getByteCodeIndex());
+    }
+
+    private synchronized int placeAt(int at) {
+        return noted.getOrDefault(at, at);
     }
 
     /** Which of the objects of its line a frame makes. */

@@ -38,7 +38,7 @@ public final class Recording {
     private final HashMap<Integer, Integer> like = new HashMap<>();
     private final String[] names = {"operations", "repeats", "retried-tries", "beyond-held", "full-traces",
             "unseen-releases",
-        "interrupted", "alike", "unrewritten", "synchronizers"};
+        "interrupted", "alike", "unrewritten", "synchronizers", "unrewritten-methods"};
     private final long[] counts = new long[names.length];
     private final long[] told = new long[names.length];
     private int taskCount;
@@ -181,6 +181,13 @@ public final class Recording {
     public static void unrewritten() {
         synchronized (it) {
             it.counts[8]++;
+        }
+    }
+
+    /** A method of the program is left unchanged, and the rest of its class isn't. */
+    public static void unrewrittenMethod() {
+        synchronized (it) {
+            it.counts[10]++;
         }
     }
 

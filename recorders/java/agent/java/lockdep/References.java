@@ -22,7 +22,7 @@ public final class References {
     }
 
     public static boolean tryLock(int site, Lock lock) {
-        return Hooks.tryLock(lock, site);
+        return Hooks.tried(lock, lock.tryLock(), site);
     }
 
     public static boolean tryLock(int site, Lock lock, long time, TimeUnit unit) throws InterruptedException {
@@ -30,7 +30,8 @@ public final class References {
     }
 
     public static void unlock(int site, Lock lock) {
-        Hooks.unlock(lock, site);
+        Hooks.unlocks(lock, site);
+        lock.unlock();
     }
 
     public static void lock(int site, ReentrantLock lock) {
@@ -42,7 +43,7 @@ public final class References {
     }
 
     public static boolean tryLock(int site, ReentrantLock lock) {
-        return Hooks.tryLock(lock, site);
+        return Hooks.tried(lock, lock.tryLock(), site);
     }
 
     public static boolean tryLock(int site, ReentrantLock lock, long time, TimeUnit unit) throws InterruptedException {
@@ -50,7 +51,8 @@ public final class References {
     }
 
     public static void unlock(int site, ReentrantLock lock) {
-        Hooks.unlock(lock, site);
+        Hooks.unlocks(lock, site);
+        lock.unlock();
     }
 
     public static void lock(int site, ReentrantReadWriteLock.ReadLock lock) {
@@ -62,7 +64,7 @@ public final class References {
     }
 
     public static boolean tryLock(int site, ReentrantReadWriteLock.ReadLock lock) {
-        return Hooks.tryLock(lock, site);
+        return Hooks.tried(lock, lock.tryLock(), site);
     }
 
     public static boolean tryLock(int site, ReentrantReadWriteLock.ReadLock lock, long time, TimeUnit unit)
@@ -71,7 +73,8 @@ public final class References {
     }
 
     public static void unlock(int site, ReentrantReadWriteLock.ReadLock lock) {
-        Hooks.unlock(lock, site);
+        Hooks.unlocks(lock, site);
+        lock.unlock();
     }
 
     public static void lock(int site, ReentrantReadWriteLock.WriteLock lock) {
@@ -83,7 +86,7 @@ public final class References {
     }
 
     public static boolean tryLock(int site, ReentrantReadWriteLock.WriteLock lock) {
-        return Hooks.tryLock(lock, site);
+        return Hooks.tried(lock, lock.tryLock(), site);
     }
 
     public static boolean tryLock(int site, ReentrantReadWriteLock.WriteLock lock, long time, TimeUnit unit)
@@ -92,6 +95,7 @@ public final class References {
     }
 
     public static void unlock(int site, ReentrantReadWriteLock.WriteLock lock) {
-        Hooks.unlock(lock, site);
+        Hooks.unlocks(lock, site);
+        lock.unlock();
     }
 }

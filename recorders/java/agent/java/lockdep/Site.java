@@ -60,7 +60,10 @@ public final class Site {
         this.call = call;
     }
 
-    /** A new place; the number is which of the line's objects is made there, from 1. */
+    /**
+     * A new place; the number is which of the line's objects is made there, from 1. In a method without lines, the place in
+     * its code is in the place of the line, below zero.
+     */
     public static int add(Source source, String method, int line, int ordinal) {
         return add(new Site(source, method, line, ordinal, "", null));
     }
@@ -159,17 +162,18 @@ public final class Site {
         return made = Made.of(fitting(name), place(), "made in");
     }
 
+    /** The end of a name: by the line, or if the method has none, by where it is in the code. */
     private String where() {
+        if (line <= 0) return "+" + -line;
         if (call == null) return line + suffix(ordinal);
-        return line > 0 ? line + suffix(OnLine.ordinalOf(source.className, method, call.descriptor, line, call.at))
-                : "+" + call.at;
+        return line + suffix(OnLine.ordinalOf(source.className, method, call.descriptor, line, call.at));
     }
 
     /** The class of the threads that are started here. */
     Made ofThreads() {
         Made known = made;
         if (known == null) {
-            String name = source.className + "." + method + ":" + line;
+            String name = source.className + "." + method + ":" + where();
             known = made = Made.of(THREAD + fitting(name, MOST_NAME - THREAD.length()), place(), Made.STARTED);
         }
         return known;
@@ -267,7 +271,7 @@ public final class Site {
     /** A place as a name: by its line, or if its class has no lines, by where it is in the code. */
     private static String nameOf(StackWalker.StackFrame frame) {
         int line = frame.getLineNumber();
-        String where = line > 0 ? line + suffix(OnLine.ordinalOf(frame)) : "+" + frame.getByteCodeIndex();
+        String where = line > 0 ? line + suffix(OnLine.ordinalOf(frame)) : "+" + OnLine.placeOf(frame);
         return frame.getClassName() + "." + frame.getMethodName() + ":" + where;
     }
 

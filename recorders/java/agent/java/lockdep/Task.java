@@ -2,7 +2,6 @@ package java.lockdep;
 
 import java.lang.invoke.VarHandle;
 import java.lang.ref.WeakReference;
-import java.util.ArrayList;
 import java.util.Arrays;
 
 /**
@@ -46,12 +45,14 @@ final class Task {
     private int fresh;
     /** What it waits for: the newest held lock. */
     private Held wish;
+    /** Of which lock, or part of one, that was wanted. */
+    private Known wishOf;
     /** What its thread is to who joins it; null if it wasn't seen to start. */
     final Known life;
     /** What it stands at or waits for, for Provoke; null if threads aren't held back. */
     final Stand stand;
-    /** What it took without a record, one entry for each level. */
-    private ArrayList<Object> leftOut;
+    /** What it took without a record; null if it never did that. */
+    private LeftOut leftOut;
     private Known failed;
     private volatile boolean hasDropped;
     /** Those that were looked up, by the last bits of their hashes. */
@@ -160,7 +161,7 @@ final class Task {
             again.levels++;
             return;
         }
-        if (leftOut != null && isLeftOut(object)) {
+        if (leftOut != null && leftOut.has(object)) {
             leftOut.add(object);
             return;
         }
@@ -190,14 +191,6 @@ final class Task {
             if (held[at].object == object) return held[at];
         }
         return null;
-    }
-
-    @Apart
-    private boolean isLeftOut(Object object) {
-        for (Object one : leftOut) {
-            if (one == object) return true;
-        }
-        return false;
     }
 
     @Within
@@ -263,6 +256,7 @@ final class Task {
         Held entry = push(lock.target, null, Modes.of(lock.isReader, manner), site);
         if (entry == null) return null;
         wish = entry;
+        wishOf = lock;
         if (isNew()) Recording.write(this);
         return entry;
     }
@@ -288,6 +282,13 @@ final class Task {
         operations++;
         if (!way.isTaken) see();
         if (!lock.target.isReentrant) lock.target.addHolder(this);
+    }
+
+    /** A lock was taken by a call that waits without a limit; it is what was wanted, unless other calls came in between. */
+    @Within
+    void got(Object object, int site) {
+        if (wish != null && wishOf.get() == object) grant(wishOf, wish, Modes.Manner.WAITS, site);
+        else took(lock(object), Modes.Manner.WAITS, site);
     }
 
     /** What was wanted without a record was taken. */
@@ -503,7 +504,7 @@ final class Task {
 
     @Apart
     private void leaveOut(Object what) {
-        if (leftOut == null) leftOut = new ArrayList<>();
+        if (leftOut == null) leftOut = new LeftOut();
         leftOut.add(what);
         if (depth == MOST_HELD) beyondHeld++;
         else fullTraces++;

@@ -1,5 +1,6 @@
-package lockdep.agent;
+package java.lockdep.agent;
 
+import java.lang.invoke.LambdaMetafactory;
 import java.util.HashMap;
 import java.util.HashSet;
 import java.util.List;
@@ -40,8 +41,12 @@ final class Calls {
         }
     }
 
+    private static final String METAFACTORY = "java/lang/invoke/LambdaMetafactory";
+    /** Which of the words of its other method has flags. */
+    private static final int FLAGS = 3;
     private static final Set<String> OF_RUNTIME = Set.of("halt(I)V");
     private static final String MAKER = "newCondition()L" + CONDITION + ";";
+    private static final Set<String> STAYING = Set.of("lock()V", "unlock()V", "tryLock()Z", MAKER, "start()V");
     private static final Words STARTERS = new Words(Set.of("java/lang/Runtime", "java/lang/ProcessBuilder"));
     private static final Words COLLECTIONS = new Words(Set.of("java/util/Collections"));
     private static final Set<String> SIGNATURES = new HashSet<>(Set.of(MAKER));
@@ -95,6 +100,18 @@ final class Calls {
         return isOfLock(type.owner(method), type.nameOfMember(method), type.descriptor(method));
     }
 
+    /**
+     * Whether a bootstrap method is the one of references: another one may look at what it gets. An object that may be
+     * serialised has the name of the method in it, and stays as it is.
+     */
+    static boolean makesReference(ClassFile type, int bootstrap) {
+        int method = type.part(type.number(bootstrap), 2);
+        if (!type.owner(method).equals(METAFACTORY)) return false;
+        if (type.nameOfMember(method).equals("metafactory")) return true;
+        boolean hasFlags = type.number(bootstrap + 2) > FLAGS && type.kind(type.number(bootstrap + 4 + 2 * FLAGS)) == ClassFile.INTEGER;
+        return hasFlags && (type.value(type.number(bootstrap + 4 + 2 * FLAGS)) & LambdaMetafactory.FLAG_SERIALIZABLE) == 0;
+    }
+
     /** The type that the call of Hooks has for the call's object; null if the call stays. */
     static String receiver(Call call, Hierarchy hierarchy) {
         if (call.opcode != Opcodes.INVOKEVIRTUAL && call.opcode != Opcodes.INVOKEINTERFACE) return null;
@@ -115,6 +132,14 @@ final class Calls {
         return OF_RUNTIME.contains(signature) && call.owner.equals("java/lang/Runtime") ? "java/lang/Runtime" : null;
     }
 
+    /**
+     * Whether a call stays, and calls of Hooks are put before or after it, which get its object and its place: then nothing
+     * of the recorder is among the frames of what it calls, and an error, as for null, says what it says without it.
+     */
+    static boolean stays(Call call) {
+        return STAYING.contains(call.name + call.descriptor);
+    }
+
     /** Whether the call of Hooks gets the place of the call. */
     static boolean hasSite(Call call) {
         return !call.name.equals("newCondition") && !call.name.equals("halt")
@@ -123,6 +148,16 @@ final class Calls {
 
     private static boolean isLock(String owner, Hierarchy hierarchy) {
         return Hierarchy.LOCK.contains(owner) || !owner.startsWith("java/") && hierarchy.isLock(owner);
+    }
+
+    /** Whether a call of a lock releases it, or changes how it is held. */
+    static boolean isRelease(String name) {
+        return name.startsWith("unlock") || name.startsWith("tryUnlock") || name.startsWith("tryConvert");
+    }
+
+    /** Whether a call of Collections returns an object that locks itself. */
+    static boolean isWrapper(Call call) {
+        return call.opcode == Opcodes.INVOKESTATIC && call.name.startsWith("synchronized") && call.descriptor.endsWith(";");
     }
 
     /** Whether a reference to a method is one to a call that is replaced. */
@@ -145,9 +180,11 @@ final class Calls {
      * it starts none, or in a folder that is named.
      */
     static int depthOfStart(Call call) {
-        if (call.owner.equals("java/lang/ProcessBuilder")) return call.name.equals("start") ? 1 : 0;
-        if (!call.owner.equals("java/lang/Runtime") || !call.name.equals("exec")) return 0;
+        if (call.opcode != Opcodes.INVOKEVIRTUAL) return 0;
+        if (call.owner.equals("java/lang/ProcessBuilder")) return call.name.equals("start") && call.descriptor.startsWith("()") ? 1 : 0;
+        boolean hasWords = call.descriptor.startsWith("(Ljava/lang/String;") || call.descriptor.startsWith("([Ljava/lang/String;");
+        if (!call.owner.equals("java/lang/Runtime") || !call.name.equals("exec") || !hasWords) return 0;
         if (call.descriptor.contains("Ljava/io/File;")) return 0;
-        return call.descriptor.contains(";[L") ? 2 : 1;
+        return call.descriptor.contains(";[L") ? 2 : 1; // (an environment is behind the words)
     }
 }

@@ -1,4 +1,4 @@
-package lockdep.agent;
+package lockdep_java_agent;
 
 import java.io.File;
 import java.lang.instrument.Instrumentation;
@@ -18,7 +18,7 @@ public final class Start {
                 File jar = new File(Start.class.getProtectionDomain().getCodeSource().getLocation().toURI());
                 machine.appendToBootstrapClassLoaderSearch(new JarFile(jar));
             }
-            Class.forName("lockdep.agent.Agent", true, null).getMethod("begin", String.class, Instrumentation.class)
+            Class.forName("java.lockdep.agent.Agent", true, null).getMethod("begin", String.class, Instrumentation.class)
                     .invoke(null, folder, machine);
         } catch (Throwable error) { // the program runs nevertheless, and `record` says that nothing was recorded
             System.err.println("record: this Java isn't recorded: " + (error.getCause() == null ? error

@@ -1,4 +1,4 @@
-package lockdep.agent;
+package java.lockdep.agent;
 
 import java.io.ByteArrayOutputStream;
 import java.io.DataOutputStream;
@@ -16,7 +16,6 @@ final class Constants {
     private static final int FIRST = 10;
     private static final int MOST = 65535;
     private static final int TEXT = 1;
-    private static final int INTEGER = 3;
     private static final int STRING = 8;
     private static final int NAME_AND_TYPE = 12;
 
@@ -37,8 +36,14 @@ final class Constants {
         countOfBootstraps = type.countOfBootstraps();
     }
 
-    private int add(long part) {
+    /** Where the next constant is written. If there is no room for it, nothing is. */
+    private Bytes next() {
         if (count >= MOST) throw new IllegalStateException("it has too many constants");
+        return added;
+    }
+
+    /** The constant that was written is this. */
+    private int add(long part) {
         if (count - first == parts.length) parts = Arrays.copyOf(parts, 2 * parts.length);
         parts[count - first] = part;
         return count++;
@@ -60,7 +65,7 @@ final class Constants {
         if (known != null) return known;
         byte[] bytes = text.getBytes(StandardCharsets.UTF_8);
         if (bytes.length != text.length() || text.indexOf(0) >= 0) bytes = ofOtherText(text);
-        added.put(TEXT).putShort(bytes.length).put(bytes, 0, bytes.length);
+        next().put(TEXT).putShort(bytes.length).put(bytes, 0, bytes.length);
         texts.put(text, count);
         return add(0);
     }
@@ -81,16 +86,16 @@ final class Constants {
         long part = part(kind, one << 16 | other);
         int known = find(part);
         if (known != 0) return known;
-        added.put(kind).putShort(one);
+        next().put(kind).putShort(one);
         if (other != 0) added.putShort(other);
         return add(part);
     }
 
     int number(int value) {
-        long part = part(INTEGER, value);
+        long part = part(ClassFile.INTEGER, value);
         int known = find(part);
         if (known != 0) return known;
-        added.put(INTEGER).putInt(value);
+        next().put(ClassFile.INTEGER).putInt(value);
         return add(part);
     }
 
@@ -120,19 +125,19 @@ final class Constants {
         long part = part(ClassFile.HANDLE, method);
         int known = find(part);
         if (known != 0) return known;
-        added.put(ClassFile.HANDLE).put(Opcodes.H_INVOKESTATIC).putShort(method);
+        next().put(ClassFile.HANDLE).put(Opcodes.H_INVOKESTATIC).putShort(method);
         return add(part);
     }
 
     /** A dynamic call like another one, with another descriptor, and with another handle among its words. */
     int dynamicCall(int call, String descriptor, int word, int handle) {
         int at = type.bootstrap(type.part(call, 1));
+        int called = nameAndType(type.nameOfMember(call), descriptor);
+        next().put(ClassFile.DYNAMIC_CALL).putShort(countOfBootstraps++).putShort(called);
         bootstraps.put(type.bytes, at, at + 4);
         for (int each = 0; each < type.number(at + 2); each++) {
             bootstraps.putShort(each == word ? handle : type.number(at + 4 + 2 * each));
         }
-        int called = nameAndType(type.nameOfMember(call), descriptor);
-        added.put(ClassFile.DYNAMIC_CALL).putShort(countOfBootstraps++).putShort(called);
         return add(part(ClassFile.DYNAMIC_CALL, countOfBootstraps));
     }
 

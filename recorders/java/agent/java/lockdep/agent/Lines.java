@@ -1,4 +1,4 @@
-package lockdep.agent;
+package java.lockdep.agent;
 
 /** The lines of a method's code. */
 final class Lines {

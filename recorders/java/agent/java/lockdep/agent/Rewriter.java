@@ -1,4 +1,4 @@
-package lockdep.agent;
+package java.lockdep.agent;
 
 import java.io.IOException;
 import java.io.InputStream;
@@ -11,7 +11,7 @@ import java.security.ProtectionDomain;
 import java.util.ArrayList;
 import java.util.List;
 
-/** Rewrites the program's classes when they are loaded. One that can't be rewritten is left unchanged, and counted. */
+/** Rewrites the program's classes when they are loaded. What can't be rewritten is left unchanged, and counted. */
 final class Rewriter implements ClassFileTransformer {
     /** What the recorder itself uses, or what is below it, whatever is requested. */
     private static final String[] NEVER = {"java/lang/Object", "java/lang/Thread", "java/lang/VirtualThread",
@@ -22,7 +22,7 @@ final class Rewriter implements ClassFileTransformer {
         "java/lang/AbstractStringBuilder", "java/lang/String", "java/util/concurrent/ConcurrentHashMap",
         "java/util/concurrent/locks/", "java/io/FileOutputStream", "java/io/FileDescriptor", "java/lockdep/",
                 "jdk/internal/",
-        "sun/instrument/", "sun/launcher/", "lockdep/agent/"};
+        "sun/instrument/", "sun/launcher/", "lockdep_java_agent/"};
     private static final String[] ALWAYS = {"java/lang/StringBuffer"};
 
     private final String[] jdk;
@@ -55,8 +55,7 @@ final class Rewriter implements ClassFileTransformer {
             return rewrite(loader, file, domain, isOfJdk);
         } catch (Throwable error) {
             Recording.unrewritten();
-            if (System.getenv("LOCKDEP_JAVA_WHY") != null) new Error("record: " + name + " stays as it is",
-                    error).printStackTrace();
+            tellWhy(name, error);
             return null;
         }
     }
@@ -99,16 +98,18 @@ final class Rewriter implements ClassFileTransformer {
     private static byte[] rewrite(ClassFile type, Source source, Wanted wanted) {
         Constants constants = new Constants(type);
         List<MethodRewriter> changed = new ArrayList<>();
+        List<IllegalStateException> left = new ArrayList<>();
         Bytes methods = new Bytes(2 * type.bytes.length);
         int copied = type.endOfConstants;
         for (ClassFile.Method method : type.methods) {
             if (!method.isWanted || method.end == method.start) continue;
             MethodRewriter rewriter = new MethodRewriter(type, method, source, wanted, constants);
-            if (!rewriter.rewrite()) continue;
+            if (!isRewritten(rewriter, left)) continue;
             rewriter.write(methods.put(type.bytes, copied, method.begin));
             copied = method.finish;
             changed.add(rewriter);
         }
+        for (IllegalStateException why : left) tellMethodLeft(type, why);
         if (changed.isEmpty()) return null;
         methods.put(type.bytes, copied, type.endOfMethods);
         Bytes written = new Bytes(methods.length() + type.bytes.length).put(type.bytes, 0, 8);
@@ -116,6 +117,29 @@ final class Rewriter implements ClassFileTransformer {
         constants.writeAttributes(written.put(methods));
         for (MethodRewriter method : changed) method.tellNoted();
         return written.toArray();
+    }
+
+    /**
+     * Rewrites a method. One that can't be rewritten stays as it is: what it does with monitors ends in it. If it may release a
+     * lock that another method takes, that would count as held from there on, so the whole class stays.
+     */
+    private static boolean isRewritten(MethodRewriter rewriter, List<IllegalStateException> left) {
+        try {
+            return rewriter.rewrite();
+        } catch (IllegalStateException why) {
+            if (rewriter.mayRelease()) throw why;
+            left.add(why);
+            return false;
+        }
+    }
+
+    private static void tellMethodLeft(ClassFile type, IllegalStateException why) {
+        Recording.unrewrittenMethod();
+        tellWhy("a method of " + type.name, why);
+    }
+
+    private static void tellWhy(String what, Throwable why) {
+        if (System.getenv("LOCKDEP_JAVA_WHY") != null) new Error("record: " + what + " stays as it is", why).printStackTrace();
     }
 
     /** The folder or jar of a class; null if it is of none. */

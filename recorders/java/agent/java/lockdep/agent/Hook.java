@@ -1,4 +1,4 @@
-package lockdep.agent;
+package java.lockdep.agent;
 
 /** The methods of Hooks that rewritten code calls most. Each is looked for only once among the constants of a class. */
 enum Hook {
@@ -8,11 +8,20 @@ enum Hook {
     MADE("made", Hook.OF_OBJECT_AND_SITE),
     MAKES("makes", "(I)V"),
     BORN("born", Hook.OF_OBJECT),
-    STARTS("starts", Hook.OF_OBJECT);
+    BEGINS("begins", Hook.OF_OBJECT_AND_SITE),
+    STARTS("starts", Hook.OF_OBJECT),
+    LOCKS("locks", Hook.OF_LOCK_AND_SITE),
+    LOCKED("locked", Hook.OF_LOCK_AND_SITE),
+    UNLOCKS("unlocks", Hook.OF_LOCK_AND_SITE),
+    TRIED("tried", "(" + Hook.LOCK + "ZI)Z"),
+    MADE_CONDITION("made", "(" + Hook.LOCK + Hook.CONDITION + ")" + Hook.CONDITION);
 
     static final int COUNT = values().length;
     private static final String OF_OBJECT = "(Ljava/lang/Object;)V";
     private static final String OF_OBJECT_AND_SITE = "(Ljava/lang/Object;I)V";
+    private static final String LOCK = "Ljava/util/concurrent/locks/Lock;";
+    private static final String CONDITION = "Ljava/util/concurrent/locks/Condition;";
+    private static final String OF_LOCK_AND_SITE = "(" + LOCK + "I)V";
 
     final String called;
     final String descriptor;

@@ -1,4 +1,4 @@
-package lockdep.agent;
+package java.lockdep.agent;
 
 import org.objectweb.asm.Opcodes;
 
@@ -30,7 +30,7 @@ final class Frames {
         return method.isStatic() || !isStoredOver() && areAllWithThis();
     }
 
-    private boolean isStoredOver() {
+    boolean isStoredOver() {
         for (int at = method.start; at < method.end; at = type.after(at, method)) {
             int opcode = type.opcode(at);
             boolean isWide = opcode == ClassFile.WIDE;

@@ -1,4 +1,4 @@
-package lockdep.agent;
+package java.lockdep.agent;
 
 import java.lockdep.OnLine;
 import java.lockdep.Provoke;
@@ -36,9 +36,14 @@ final class MethodRewriter {
     /** Where constructors are called that are told their places. */
     private final Map<Integer, Integer> told = new HashMap<>();
     private boolean isChanged;
+    private Bytes written;
     /** Whether it enters its monitor by instructions. */
     private boolean isByItself;
     private int line;
+    /** The instruction that is looked at. */
+    private int here;
+    /** Of a method without lines: where constructors are called, in the file. */
+    private final List<Integer> unlined = new ArrayList<>();
 
     /** An object that is noted: its line, its number there, and where its constructor is called, or -1 if it has none. */
     private static final class Noted {
@@ -65,14 +70,28 @@ final class MethodRewriter {
         lines = new Lines(type, method);
     }
 
-    /** Returns whether anything in the method is changed. */
+    /** Returns whether anything in the method is changed. One that can't be is refused before any of it is written. */
     boolean rewrite() {
         if (method.isSynchronized() && !new Frames(type, method, descriptor).keepThis())
                 throw new IllegalStateException("its method " + name + " changes `this`");
+        if (new Unmade(type, method).mayBeLocked())
+                throw new IllegalStateException("its method " + name + " locks an object that isn't made yet");
         isByItself = method.isSynchronized() && isToEnterByItself();
         passAll();
         if (method.isSynchronized()) wrap();
+        if (isChanged) written = code.write();
         return isChanged;
+    }
+
+    /** Whether the method may release what another one has taken: by calls, which are no part of a block as monitors are. */
+    boolean mayRelease() {
+        for (int at = method.start; at < method.end; at = type.after(at, method)) {
+            int opcode = type.opcode(at);
+            boolean isCall = opcode == Opcodes.INVOKEVIRTUAL || opcode == Opcodes.INVOKEINTERFACE;
+            if (opcode < Opcodes.INVOKEVIRTUAL || opcode > Opcodes.INVOKEDYNAMIC || !wanted.matters(type.number(at + 1))) continue;
+            if (opcode == Opcodes.INVOKEDYNAMIC || isCall && Calls.isRelease(type.nameOfMember(type.number(at + 1)))) return true;
+        }
+        return false;
     }
 
     private void passAll() {
@@ -83,6 +102,7 @@ final class MethodRewriter {
             next = type.after(at, method);
             int own = all[at - method.start];
             if (own != 0) line = own;
+            here = at;
             int opcode = bytes[at] & 255;
             if (opcode >= Opcodes.IFEQ) pass(opcode, at, next);
         }
@@ -97,7 +117,6 @@ final class MethodRewriter {
 
     /** The method as it is now. */
     void write(Bytes out) {
-        Bytes written = code.write();
         out.putShort(isByItself ? method.access & ~Opcodes.ACC_SYNCHRONIZED : method.access);
         out.put(type.bytes, method.begin + 2, method.attribute).put(written);
         out.put(type.bytes, method.attribute + 6 + type.longNumber(method.attribute + 2), method.finish);
@@ -133,7 +152,12 @@ final class MethodRewriter {
     }
 
     private Bytes site(Bytes to) {
-        return number(to, Site.add(source, name, line, 1));
+        return number(to, Site.add(source, name, where(), 1));
+    }
+
+    /** The line; without lines, the place in the code, as a number that isn't one of a line. */
+    private int where() {
+        return line > 0 ? line : method.start - here;
     }
 
     private Bytes number(Bytes to, int value) {
@@ -148,18 +172,25 @@ final class MethodRewriter {
 
     private void rewriteCall(int opcode, int at, int next) {
         int called = type.number(at + 1);
-        if (opcode == Opcodes.INVOKESPECIAL && type.isConstructor(called)) endNew(called, at, next);
+        boolean isConstructor = opcode == Opcodes.INVOKESPECIAL && type.isConstructor(called);
+        if (isConstructor && line == 0) unlined.add(at);
+        if (isConstructor) endNew(called, at, next);
         else if (wanted.matters(called)) rewriteCall(new Calls.Call(opcode, type.owner(called),
                 type.nameOfMember(called), type.descriptor(called)), at, next);
     }
 
     private void rewriteCall(Calls.Call call, int at, int next) {
-        if (call.owner.equals("java/util/Collections") && call.name.startsWith("synchronized")) noteMade(at, next, -1);
+        if (call.owner.equals("java/util/Collections") && Calls.isWrapper(call)) noteMade(at, next, -1);
         int depth = source.isOfJdk ? 0 : Calls.depthOfStart(call);
         if (depth == 2) call(before(at).put(Opcodes.DUP2).put(Opcodes.POP), Hook.STARTS);
         else if (depth == 1) call(before(at).put(Opcodes.DUP), Hook.STARTS);
         String receiver = Calls.receiver(call, wanted.hierarchy);
         if (receiver == null) return;
+        isChanged = true;
+        if (Calls.stays(call)) {
+            surround(call.name, at, next);
+            return;
+        }
         boolean hasSite = Calls.hasSite(call);
         if (hasSite) site(before(at));
         int end = call.descriptor.indexOf(')');
@@ -167,7 +198,28 @@ final class MethodRewriter {
         String descriptorOfHook = "(L" + receiver + ";" + words + call.descriptor.substring(end);
         int called = constants.method(Calls.HOOKS, call.name, descriptorOfHook);
         code.instead(at).put(Opcodes.INVOKESTATIC).putShort(called);
-        isChanged = true;
+    }
+
+    /** Adds what is to be known before a call that has no words but its object, and after it, for which that is kept on the stack. */
+    private void surround(String called, int at, int next) {
+        Bytes first = before(at).put(Opcodes.DUP);
+        switch (called) {
+            case "lock":
+                call(site(first.put(Opcodes.DUP)), Hook.LOCKS);
+                call(site(behind(next)), Hook.LOCKED);
+                break;
+            case "unlock":
+                call(site(first), Hook.UNLOCKS);
+                break;
+            case "tryLock":
+                call(site(behind(next)), Hook.TRIED);
+                break;
+            case "newCondition":
+                call(behind(next), Hook.MADE_CONDITION);
+                break;
+            default:
+                call(site(first), Hook.BEGINS);
+        }
     }
 
     /**
@@ -178,6 +230,7 @@ final class MethodRewriter {
         int call = type.number(at + 1);
         String made = type.descriptor(call);
         int bootstrap = type.bootstrap(type.part(call, 1));
+        if (!Calls.makesReference(type, bootstrap)) return;
         for (int word = 0; word < type.number(bootstrap + 2); word++) {
             int handle = type.number(bootstrap + 4 + 2 * word);
             if (type.kind(handle) != ClassFile.HANDLE || !Calls.mayBeReference(type, handle)) continue;
@@ -200,12 +253,28 @@ final class MethodRewriter {
         if (!news.isEmpty() && isSameClass(type.number(news.peek() + 1), type.part(called, 1))) {
             int made = news.pop();
             if (wanted.isTold(method, called)) tell(called, at);
-            boolean isKept = type.opcode(made + 3) == Opcodes.DUP;
-            if (isKept && (wanted.matters(type.number(made + 1)) || isKeptInLockedField(next))) noteMade(at, next, at);
+            boolean isNoted = wanted.matters(type.number(made + 1)) || isKeptInLockedField(next);
+            if (isNoted && isOnStack(made, at)) noteMade(at, next, at);
         } else if (method.isConstructor && news.isEmpty() && wanted.locking.isOfItself()
-                && !type.owner(called).equals(type.name)) {
+                && !type.owner(called).equals(type.name) && isOfThis(at)) {
             call(behind(next).put(ALOAD_0), Hook.BORN);
         }
+    }
+
+    /** Whether an object that is being made is on the stack once its constructor has run, and nothing else above it. */
+    private boolean isOnStack(int made, int at) {
+        return type.opcode(made + 3) == Opcodes.DUP && new Depth(type, method).stays(2, made + 4, at);
+    }
+
+    /** Whether the constructor that is called is one for `this`, which stays in its variable. */
+    private boolean isOfThis(int call) {
+        if (new Frames(type, method, descriptor).isStoredOver()) return false;
+        Depth depth = new Depth(type, method);
+        boolean isFound = false;
+        for (int at = method.start; at < call && !isFound; at = type.after(at, method)) {
+            isFound = type.opcode(at) == ALOAD_0 && depth.stays(1, at + 1, call);
+        }
+        return isFound;
     }
 
     private boolean isSameClass(int one, int other) {
@@ -220,16 +289,18 @@ final class MethodRewriter {
 
     /** The object on the stack was made on this line. */
     private void noteMade(int at, int next, int constructor) {
-        int ordinal = madeOnLine.getOrDefault(line, 0) + 1;
-        madeOnLine.put(line, ordinal);
-        int site = Site.add(source, name, line, ordinal);
-        noted.add(new Noted(line, ordinal, constructor));
+        int ordinal = line > 0 ? madeOnLine.getOrDefault(line, 0) + 1 : 1;
+        int site = Site.add(source, name, where(), ordinal);
+        if (line > 0) {
+            madeOnLine.put(line, ordinal);
+            noted.add(new Noted(line, ordinal, constructor));
+        }
         call(number(behind(next).put(Opcodes.DUP), site), Hook.MADE);
     }
 
     /** A constructor looks for its caller if it isn't told where it is called, and that costs much. */
     private void tell(int called, int at) {
-        int site = Site.addCall(source, name, descriptor, line, type.owner(called).replace('/', '.'));
+        int site = Site.addCall(source, name, descriptor, where(), type.owner(called).replace('/', '.'));
         call(number(before(at), site), Hook.MAKES);
         told.put(site, at);
     }
@@ -241,6 +312,7 @@ final class MethodRewriter {
             int at = each.constructor < 0 ? -1 : code.placeOf(each.constructor);
             OnLine.note(source, name, descriptor, each.line, each.ordinal, at);
         }
+        for (int at : unlined) OnLine.notePlace(source, name, descriptor, code.placeOf(at), at - method.start);
     }
 
     // ---- Synchronized methods.
@@ -259,6 +331,7 @@ final class MethodRewriter {
     /** The method enters the monitor before its first line, and exits it on an error, as it does before each return. */
     private void wrap() {
         line = lines.first;
+        here = method.start;
         Bytes entry = site(owner(behind(method.start)));
         if (isByItself) owner(call(entry, Hook.ENTER)).put(Opcodes.MONITORENTER);
         else call(entry, Hook.ENTERED);

@@ -1,4 +1,4 @@
-package lockdep.agent;
+package java.lockdep.agent;
 
 import java.util.Arrays;
 
@@ -120,7 +120,7 @@ final class Code {
         out = new Bytes(size + method.finish - method.attribute + SPARE);
         int at = method.attribute;
         out.put(type.bytes, at, at + 2).putInt(0);
-        out.putShort(Math.max(type.number(at + 6), 1) + MOST_PUSHED).putShort(type.number(at + 8));
+        out.putShort(Math.min(Math.max(type.number(at + 6), 1) + MOST_PUSHED, LONGEST)).putShort(type.number(at + 8));
         out.putInt(handler == null ? size : size + handler.length());
         writeInstructions();
         if (handler != null) out.put(handler);
@@ -273,8 +273,15 @@ final class Code {
         out.putShort(lineOfEntry > 0 ? count + 1 : count);
         if (lineOfEntry > 0) out.putShort(0).putShort(lineOfEntry);
         for (int next = at + 2; count > 0; count--, next += 4) {
-            out.putShort(places[type.number(next)]).putShort(type.number(next + 2));
+            out.putShort(placeNear(type.number(next))).putShort(type.number(next + 2));
         }
+    }
+
+    /** The place of an instruction, or of the one that a place of the file is in. (For debuggers it needn't be the beginning of one.) */
+    private int placeNear(int old) {
+        int at = old;
+        while (at > 0 && places[at] == 0) at--;
+        return places[at];
     }
 
     private void writeVariables(int at) {
@@ -282,8 +289,8 @@ final class Code {
         out.putShort(count);
         for (int next = at + 2; count > 0; count--, next += 10) {
             int start = type.number(next);
-            int begin = places[start];
-            out.putShort(begin).putShort(places[start + type.number(next + 2)] - begin);
+            int begin = placeNear(start);
+            out.putShort(begin).putShort(placeNear(start + type.number(next + 2)) - begin);
             out.put(type.bytes, next + 4, next + 10);
         }
     }

@@ -1,4 +1,4 @@
-package lockdep.agent;
+package java.lockdep.agent;
 
 import java.io.ByteArrayInputStream;
 import java.io.DataInputStream;
@@ -14,6 +14,7 @@ import org.objectweb.asm.Opcodes;
  */
 final class ClassFile {
     /** Kinds of constants. */
+    static final int INTEGER = 3;
     static final int CLASS = 7;
     static final int FIELD = 9;
     static final int METHOD = 10;
@@ -78,8 +79,9 @@ final class ClassFile {
             return (access & Opcodes.ACC_STATIC) != 0;
         }
 
+        /** (Of what initialises a class, this flag and others mean nothing.) */
         boolean isSynchronized() {
-            return (access & Opcodes.ACC_SYNCHRONIZED) != 0;
+            return (access & Opcodes.ACC_SYNCHRONIZED) != 0 && !isText(number(begin + 2), "<clinit>");
         }
     }
 
@@ -262,6 +264,11 @@ final class ClassFile {
     /** One of a constant's own numbers, which begins behind so many bytes. */
     int part(int constant, int behind) {
         return number(constants[constant] + behind);
+    }
+
+    /** The value of a constant that is a number. */
+    int value(int constant) {
+        return longNumber(constants[constant] + 1);
     }
 
     /** The kind of a method's handle. */

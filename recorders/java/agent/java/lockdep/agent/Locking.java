@@ -1,4 +1,4 @@
-package lockdep.agent;
+package java.lockdep.agent;
 
 import java.util.Arrays;
 import java.util.HashSet;
