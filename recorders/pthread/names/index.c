@@ -29,6 +29,33 @@ static bool is_thread_address(const Dwarf_Op *operation) {
     return operation->atom == DW_OP_form_tls_address || operation->atom == DW_OP_GNU_push_tls_address;
 }
 
+/* Of a split file it is in a table: from clang the offset, and from gcc the address. What may be either is neither. */
+static bool thread_offset_in_table(const struct module *m, uint64_t word, uint64_t *at) {
+    GElf_Phdr part;
+    size_t count = 0;
+    bool is_offset = false, is_address = false;
+    if (!m->elf || elf_getphdrnum(m->elf, &count) != 0)
+        return false;
+    for (size_t i = 0; i < count; i++) {
+        if (!gelf_getphdr(m->elf, (int)i, &part) || part.p_type != PT_TLS)
+            continue;
+        is_offset = word < part.p_memsz;
+        is_address = word - part.p_vaddr < part.p_memsz;
+        *at = is_address ? word - part.p_vaddr : word;
+    }
+    return is_offset != is_address;
+}
+
+static bool thread_offset_of(const struct module *m, Dwarf_Attribute *a, Dwarf_Op *operation, uint64_t *at) {
+    Dwarf_Attribute indirect;
+    Dwarf_Word word;
+    *at = operation->number;
+    if (operation->atom != DW_OP_constx && operation->atom != DW_OP_GNU_const_index)
+        return true;
+    return dwarf_getlocation_attr(a, operation, &indirect) == 0 && dwarf_formudata(&indirect, &word) == 0 &&
+           thread_offset_in_table(m, word, at);
+}
+
 static void index_variable(struct module *m, Dwarf_Die *die) {
     Dwarf_Attribute a;
     Dwarf_Op *operations;
@@ -37,10 +64,17 @@ static void index_variable(struct module *m, Dwarf_Die *die) {
     if (!has_plain_location(die, &a) || dwarf_getlocation(&a, &operations, &count) != 0)
         return;
     if (count == 2 && is_thread_address(&operations[1])) {
-        v.at = operations[0].number;
-        PUSH(m->thread_variables, m->thread_variable_count, v);
+        if (thread_offset_of(m, &a, operations, &v.at))
+            PUSH(m->thread_variables, m->thread_variable_count, v);
     } else if (count == 1 && address_of(&a, operations, &v.at) && v.at)
         PUSH(m->variables, m->variable_count, v);
+}
+
+bool address_of_variable(Dwarf_Die *die, uint64_t *at) {
+    Dwarf_Attribute a;
+    Dwarf_Op *operations;
+    size_t count;
+    return has_plain_location(die, &a) && dwarf_getlocation(&a, &operations, &count) == 0 && count == 1 && address_of(&a, operations, at);
 }
 
 /* A class without a name may have that of a typedef, but is only a part of a class that it is in. */
@@ -95,7 +129,7 @@ void index_module(struct module *m) {
         return;
     m->is_indexed = true;
     while (dwarf_get_units(m->debug, cu, &cu, &version, &kind, &unit, &part) == 0)
-        index_below(m, kind == DW_UT_skeleton && part.addr ? &part : &unit, 0);
+        index_below(m, whole_unit(&unit, kind, &part), 0);
     sort(m->variables, m->variable_count, sizeof *m->variables, by_address);
     sort(m->thread_variables, m->thread_variable_count, sizeof *m->thread_variables, by_address);
     sort(m->types, m->type_count, sizeof *m->types, by_name);
@@ -125,8 +159,8 @@ static bool defined_in(struct module *m, const char *name, const char *wanted, D
     return false;
 }
 
-#define C_PLUS_PLUS_17 0x2b /* languages that an older header doesn't know */
-#define C_PLUS_PLUS_20 0x2c
+#define C_PLUS_PLUS_17 0x2a /* languages that an older header doesn't know */
+#define C_PLUS_PLUS_20 0x2b
 
 /* Whether a class of that name is the same one in all modules of a program: one of C++ that isn't a file's own. */
 static bool is_of_all_modules(Dwarf_Die *type, const char *wanted) {

@@ -65,6 +65,8 @@ struct module {
     const char *path;
     Dwfl_Module *file; /* NULL if it can't be read */
     Dwarf *debug;      /* by has_debug; NULL if it has no debug information */
+    Dwarf **parts;     /* its split files */
+    size_t part_count;
     Elf *elf;
     uint64_t from, to; /* its addresses in the file */
     bool is_debug_known, has_ranges, is_indexed, has_symbols, has_sources, is_written; /* its sources */
@@ -93,6 +95,7 @@ const void *part_of(enum raw_kind kind, uint32_t number);
 const struct loaded *loaded_at(uint64_t address);      /* NULL also if it isn't clear which */
 const struct loaded *loaded_numbered(uint32_t number); /* of the arena's modules */
 bool has_debug(struct module *m); /* opens its debug information, which may take long */
+Dwarf_Die *whole_unit(Dwarf_Die *unit, uint8_t kind, Dwarf_Die *part); /* a unit, or what a split file has of it */
 bool is_recorder(const struct module *m);
 struct module *module_of_die(Dwarf_Die *die);
 const char *base_of(const char *path);
@@ -112,6 +115,10 @@ Dwarf_Die declaration_of(Dwarf_Die die);
 bool template_argument(Dwarf_Die *die, Dwarf_Die *type);
 const char *qualified(Dwarf_Die *die); /* the name with its scopes */
 bool is_of_library(const char *qualified_name);
+
+/* ---- nameless.c */
+
+const char *name_of_nameless(Dwarf_Die *function); /* of one without a name, with its scopes */
 
 /* ---- files.c */
 
@@ -153,6 +160,7 @@ const char *weak_text_of(const struct path *path); /* a class that is a lock its
 
 void index_module(struct module *m);
 bool index_die(Dwarf_Die *type); /* finds the definition of a declared type by its name */
+bool address_of_variable(Dwarf_Die *die, uint64_t *at); /* of a static one */
 
 /* ---- units.c: code by address. */
 
