@@ -78,6 +78,20 @@ void read_sources(struct module *m) {
     }
 }
 
+void add_source(struct module *m, const char *path) {
+    size_t i = 0;
+    while (i < m->source_count && strcmp(m->sources[i], path) != 0)
+        i++;
+    if (i == m->source_count)
+        PUSH(m->sources, m->source_count, path);
+}
+
+const char *header_of(Dwarf_Die *die) {
+    Dwarf_Die unit;
+    const char *path = file_of(die, &unit);
+    return path && !is_source(path) ? absolute(&unit, path) : NULL;
+}
+
 /* A text is `PATH MARK base name:the rest`. */
 #define AFTER_PATH '\x1f'
 
@@ -102,15 +116,15 @@ static bool is_of_unit(Dwarf_Die *variable, const char *qualified_name) {
     return !is_shared || strstr(qualified_name, ANONYMOUS);
 }
 
-/* A type of a header is the same in all files, a static variable never is. One with internal linkage has its unit's source for a file, since
-   a header gives one to each. */
+/* A type of a header is the same in all files, unless another header has one of that name in C. A static variable never is. One with
+   internal linkage has its unit's source for a file, since a header gives one to each. */
 const char *file_mark(Dwarf_Die *die, const char *qualified_name) {
     Dwarf_Die unit;
     const char *path = file_of(die, &unit);
     bool is_variable = dwarf_tag(die) == DW_TAG_variable;
     if (path && is_variable && is_of_unit(die, qualified_name) && name_of(&unit))
         path = name_of(&unit);
-    bool is_local = path && (is_source(path) || is_variable || strstr(qualified_name, ANONYMOUS));
+    bool is_local = path && (is_source(path) || is_variable || strstr(qualified_name, ANONYMOUS) || is_one_of_several(die));
     return is_local ? with_path(&unit, path) : "";
 }
 

@@ -86,6 +86,15 @@ static void index_type(struct module *m, Dwarf_Die *die, bool is_in_class) {
         PUSH(m->types, m->type_count, type);
 }
 
+/* The name that a typedef gives to a class of the file that has none of its own. */
+static void index_typedef(struct module *m, Dwarf_Die *die) {
+    Dwarf_Die class;
+    if (!name_of(die) || !type_of(die, &class) || !is_class(dwarf_tag(&class)) || name_of(&class))
+        return;
+    struct indexed_type type = {name_of(die), number_of(&class, DW_AT_byte_size, 0), class};
+    PUSH(m->typedefs, m->typedef_count, type);
+}
+
 static void index_below(struct module *m, Dwarf_Die *die, int depth) {
     Dwarf_Die child;
     if (depth > DEEPEST || dwarf_child(die, &child) != 0)
@@ -96,6 +105,8 @@ static void index_below(struct module *m, Dwarf_Die *die, int depth) {
             index_variable(m, &child);
         if (is_class(tag))
             index_type(m, &child, is_class(dwarf_tag(die)));
+        if (tag == DW_TAG_typedef && depth == 0)
+            index_typedef(m, &child);
         if (is_class(tag) || tag == DW_TAG_namespace || tag == DW_TAG_lexical_block ||
             (tag == DW_TAG_subprogram && !dwarf_hasattr(&child, DW_AT_declaration)))
             index_below(m, &child, depth + 1);
@@ -133,13 +144,14 @@ void index_module(struct module *m) {
     sort(m->variables, m->variable_count, sizeof *m->variables, by_address);
     sort(m->thread_variables, m->thread_variable_count, sizeof *m->thread_variables, by_address);
     sort(m->types, m->type_count, sizeof *m->types, by_name);
+    sort(m->typedefs, m->typedef_count, sizeof *m->typedefs, by_name);
 }
 
-static size_t first_named(const struct module *m, const char *name) {
-    size_t low = 0, high = m->type_count;
+size_t first_named(const struct indexed_type *types, size_t count, const char *name) {
+    size_t low = 0, high = count;
     while (low < high) {
         size_t middle = (low + high) / 2;
-        if (strcmp(m->types[middle].name, name) < 0)
+        if (strcmp(types[middle].name, name) < 0)
             low = middle + 1;
         else
             high = middle;
@@ -149,7 +161,7 @@ static size_t first_named(const struct module *m, const char *name) {
 
 static bool defined_in(struct module *m, const char *name, const char *wanted, Dwarf_Die *type) {
     index_module(m);
-    for (size_t i = first_named(m, name); i < m->type_count && strcmp(m->types[i].name, name) == 0; i++) {
+    for (size_t i = first_named(m->types, m->type_count, name); i < m->type_count && strcmp(m->types[i].name, name) == 0; i++) {
         Dwarf_Die die = m->types[i].die;
         if (strcmp(qualified(&die), wanted) == 0) {
             *type = die;

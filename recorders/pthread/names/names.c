@@ -96,12 +96,12 @@ static void write_found(FILE *file, uint32_t class, const struct found *found) {
 /* Those of a module that several programs have are written once. */
 static void write_sources(FILE *file, struct module *m) {
     read_sources(m);
-    for (size_t i = 0; i < m->source_count && !m->is_written; i++) {
+    for (; m->sources_written < m->source_count; m->sources_written++) {
+        const char *path = m->sources[m->sources_written];
         fputs("source ", file);
-        write_text(file, m->sources[i], strlen(m->sources[i]));
+        write_text(file, path, strlen(path));
         putc('\n', file);
     }
-    m->is_written = true;
 }
 
 static void write_modules(FILE *file) {

@@ -69,19 +69,19 @@ struct module {
     size_t part_count;
     Elf *elf;
     uint64_t from, to; /* its addresses in the file */
-    bool is_debug_known, has_ranges, is_indexed, has_symbols, has_sources, is_written; /* its sources */
+    bool is_debug_known, has_ranges, is_indexed, has_symbols, has_sources;
     struct unit_range *ranges;
     size_t range_count;
     struct unit_functions *units;
     size_t unit_count;
     struct variable *variables, *thread_variables;
     size_t variable_count, thread_variable_count;
-    struct indexed_type *types;
-    size_t type_count;
+    struct indexed_type *types, *typedefs; /* the second of classes that have no other name */
+    size_t type_count, typedef_count;
     struct symbol *symbols;
     size_t symbol_count;
-    const char **sources; /* the source files of its units */
-    size_t source_count;
+    const char **sources; /* the source files of its units, and headers that have types of one name */
+    size_t source_count, sources_written;
 };
 
 struct loaded { /* a module where a process had it */
@@ -124,9 +124,15 @@ const char *name_of_nameless(Dwarf_Die *function); /* of one without a name, wit
 
 const char *file_mark(Dwarf_Die *die, const char *qualified_name); /* `store.cpp:` after its path, where another file may use the name too, else empty */
 const char *after_path(const char *text); /* the text without that path */
+const char *header_of(Dwarf_Die *die); /* the path of the header that declares it; NULL if that is no header */
 void read_sources(struct module *m);
+void add_source(struct module *m, const char *path);
 #define ANONYMOUS "{anonymous}::" /* the scope of what is a file's own, in a name */
 const char *without_anonymous(const char *qualified_name);
+
+/* ---- tags.c */
+
+bool is_one_of_several(Dwarf_Die *type); /* another header of the module has one of that name that isn't the same */
 
 /* ---- types.c */
 
@@ -159,6 +165,7 @@ const char *weak_text_of(const struct path *path); /* a class that is a lock its
 /* ---- index.c: what a module has. */
 
 void index_module(struct module *m);
+size_t first_named(const struct indexed_type *types, size_t count, const char *name); /* where those of that name begin */
 bool index_die(Dwarf_Die *type); /* finds the definition of a declared type by its name */
 bool address_of_variable(Dwarf_Die *die, uint64_t *at); /* of a static one */
 
