@@ -69,12 +69,14 @@ static const char *by_symbol(Dwarf_Die *function) {
 
 #define DEEPEST_SCOPE 12
 
+static bool is_pointer_or_array(int tag) { return is_pointer(tag) || tag == DW_TAG_array_type; }
+
 static bool leads_to(Dwarf_Die variable, const Dwarf_Die *function) {
     Dwarf_Die type, next, scope;
     bool is_lock;
     if (!type_of(&variable, &type))
         return false;
-    while (peel(&type, &is_lock) && !is_lock && (is_pointer(dwarf_tag(&type)) || dwarf_tag(&type) == DW_TAG_array_type) && type_of(&type, &next))
+    while (peel(&type, &is_lock) && !is_lock && is_pointer_or_array(dwarf_tag(&type)) && type_of(&type, &next))
         type = next;
     return is_class(dwarf_tag(&type)) && parent_of(&type, &scope) && scope.addr == function->addr;
 }

@@ -260,11 +260,23 @@ bool frame_variable(const struct raw_class *class, struct found *found, bool *is
 bool has_lock(Dwarf_Die type, uint64_t at, struct found *found, bool *is_bare);
 bool search_frames(struct found *found, struct found *bare);
 
+/* stale.c: variables that point to what lay there before. */
+void find_active_frames(void);
+bool is_in_allocating_call(int frame);
+bool is_stale(Dwarf_Die *variable, Dwarf_Die *scope, int frame, uint64_t address, const struct value *value);
+
 /* constructors.c */
+#define MOST_CODE (UINT64_C(1) << 18) /* bytes of a function that are looked through */
+struct code {
+    struct module *module;
+    uint64_t at, size;
+    unsigned char *bytes;
+};
+bool read_code(struct code *code);
 bool by_constructor(struct module *m, Dwarf_Die *scopes, int count, uint64_t after, struct found *found);
 
 /* members.c */
-bool search_members(Dwarf_Die type, const struct value *value, struct found *found, int hops);
+bool search_members(Dwarf_Die type, const struct value *value, struct found *found, int hops, bool *is_unclear);
 
 /* allocations.c: by where the memory was allocated. */
 bool lock_in_piece(Dwarf_Die type, struct path *path); /* an object of the type, or an array of them, in that memory has the lock where it is */

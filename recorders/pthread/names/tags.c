@@ -23,7 +23,8 @@ static bool is_of_c(Dwarf_Die *die) {
 static bool is_same_name(const char *a, const char *b) { return a && b ? strcmp(a, b) == 0 : a == b; }
 
 static bool is_same_member(Dwarf_Die *a, Dwarf_Die *b) {
-    return is_same_name(name_of(a), name_of(b)) && number_of(a, DW_AT_data_member_location, 0) == number_of(b, DW_AT_data_member_location, 0);
+    return is_same_name(name_of(a), name_of(b)) &&
+           number_of(a, DW_AT_data_member_location, 0) == number_of(b, DW_AT_data_member_location, 0);
 }
 
 /* By their sizes, and by their members' names and places. */
