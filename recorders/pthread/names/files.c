@@ -86,10 +86,15 @@ void add_source(struct module *m, const char *path) {
         PUSH(m->sources, m->source_count, path);
 }
 
-const char *header_of(Dwarf_Die *die) {
+const char *path_of(Dwarf_Die *die) {
     Dwarf_Die unit;
     const char *path = file_of(die, &unit);
-    return path && !is_source(path) ? absolute(&unit, path) : NULL;
+    return path ? absolute(&unit, path) : NULL;
+}
+
+const char *header_of(Dwarf_Die *die) {
+    const char *path = path_of(die);
+    return path && !is_source(path) ? path : NULL;
 }
 
 /* A text is `PATH MARK base name:the rest`. */

@@ -88,7 +88,7 @@ static bool is_as_it_ran(const char *path) {
     struct stat about;
     if (stat(path, &about) != 0 || !S_ISREG(about.st_mode))
         return false;
-    return (uint64_t)about.st_mtim.tv_sec * 1000000000 + (uint64_t)about.st_mtim.tv_nsec < arena->started;
+    return !arena || (uint64_t)about.st_mtim.tv_sec * 1000000000 + (uint64_t)about.st_mtim.tv_nsec < arena->started;
 }
 
 static void open_module(struct module *m) {
@@ -128,7 +128,7 @@ bool has_debug(struct module *m) {
     return m->debug;
 }
 
-static struct module *module_named(const char *path) {
+struct module *module_named(const char *path) {
     for (size_t i = 0; i < module_count; i++)
         if (strcmp(modules[i]->path, path) == 0)
             return modules[i];

@@ -96,6 +96,7 @@ const struct loaded *loaded_at(uint64_t address);      /* NULL also if it isn't 
 const struct loaded *loaded_numbered(uint32_t number); /* of the arena's modules */
 bool has_debug(struct module *m); /* opens its debug information, which may take long */
 Dwarf_Die *whole_unit(Dwarf_Die *unit, uint8_t kind, Dwarf_Die *part); /* a unit, or what a split file has of it */
+struct module *module_named(const char *path); /* which may have changed since, if no arena is open */
 bool is_recorder(const struct module *m);
 struct module *module_of_die(Dwarf_Die *die);
 const char *base_of(const char *path);
@@ -124,6 +125,7 @@ const char *name_of_nameless(Dwarf_Die *function); /* of one without a name, wit
 
 const char *file_mark(Dwarf_Die *die, const char *qualified_name); /* `store.cpp:` after its path, where another file may use the name too, else empty */
 const char *after_path(const char *text); /* the text without that path */
+const char *path_of(Dwarf_Die *die); /* of the file that declares it; NULL if that isn't known */
 const char *header_of(Dwarf_Die *die); /* the path of the header that declares it; NULL if that is no header */
 void read_sources(struct module *m);
 void add_source(struct module *m, const char *path);
@@ -250,6 +252,8 @@ struct found {
     const char *text;
     const char *member; /* of a lock without a text, in a structure without a name: how a variable leads to it, such as `.in`; else NULL */
 };
+
+void tell_lines(const char *module); /* where the static variables are declared whose addresses are on standard input */
 
 /* variables.c: by what is in the module or in a frame, wherever it was met. */
 bool static_variable(struct module *m, uint64_t at, struct found *found);
