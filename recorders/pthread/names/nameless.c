@@ -71,14 +71,17 @@ static const char *by_symbol(Dwarf_Die *function) {
 
 static bool is_pointer_or_array(int tag) { return is_pointer(tag) || tag == DW_TAG_array_type; }
 
+#define LONGEST_CHAIN 20 /* of pointers */
+
 static bool leads_to(Dwarf_Die variable, const Dwarf_Die *function) {
-    Dwarf_Die type, next, scope;
-    bool is_lock;
-    if (!type_of(&variable, &type))
-        return false;
-    while (peel(&type, &is_lock) && !is_lock && is_pointer_or_array(dwarf_tag(&type)) && type_of(&type, &next))
-        type = next;
-    return is_class(dwarf_tag(&type)) && parent_of(&type, &scope) && scope.addr == function->addr;
+    Dwarf_Die type, scope;
+    bool is_lock, is_behind = type_of(&variable, &type) && peel(&type, &is_lock) && !is_lock;
+    for (int i = 0; is_behind && is_pointer_or_array(dwarf_tag(&type)); i++) {
+        Dwarf_Die next;
+        is_behind = i < LONGEST_CHAIN && type_of(&type, &next) && peel(&next, &is_lock) && !is_lock;
+        type = is_behind ? next : type;
+    }
+    return is_behind && is_class(dwarf_tag(&type)) && parent_of(&type, &scope) && scope.addr == function->addr;
 }
 
 static bool has_variable(Dwarf_Die *scope, const Dwarf_Die *function, int depth) {

@@ -44,7 +44,10 @@ static bool find_caller(const struct callers *c, const void *function, int rank,
     return is_found && (rank == 0 || !c->is_whole);
 }
 
-static int rank_of(const void *const *functions, int frame) {
+/* The functions of the frames. */
+static const void *functions[FRAMES + 1];
+
+static int rank_of(int frame) {
     int rank = 0;
     for (int i = frame; i < frame_count; i++)
         rank += functions[i] == functions[frame];
@@ -52,22 +55,26 @@ static int rank_of(const void *const *functions, int frame) {
 }
 
 /* What is further out than a function that was running was running too, in the call that it is still in. */
+static void find_active(const struct callers *callers) {
+    bool is_active = false;
+    for (int i = 0; i < frame_count; i++) {
+        struct active *a = &active[i];
+        a->allocated = a->at = address_in(&frames[i]) + frames[i].is_call;
+        is_active |= find_caller(callers, functions[i], rank_of(i), &a->allocated);
+        a->is_active = is_active;
+    }
+}
+
 void find_active_frames(void) {
     const struct raw_place *place = look->piece ? part_of(RAW_PLACES, (uint32_t)look->piece_place) : NULL;
     struct callers callers;
-    const void *functions[FRAMES + 1];
-    bool is_active = false;
     memset(active, 0, sizeof active);
-    if (place)
-        read_callers(place, &callers);
-    for (int i = 0; place && i < frame_count; i++)
+    if (!place)
+        return;
+    read_callers(place, &callers);
+    for (int i = 0; i < frame_count; i++)
         functions[i] = entry_of(frames[i].in, address_in(&frames[i]));
-    for (int i = 0; place && i < frame_count; i++) {
-        struct active *a = &active[i];
-        a->allocated = a->at = address_in(&frames[i]) + frames[i].is_call;
-        is_active |= find_caller(&callers, functions[i], rank_of(functions, i), &a->allocated);
-        a->is_active = is_active;
-    }
+    find_active(&callers);
 }
 
 /* What a call passes in which the memory was allocated was there before. */
@@ -77,8 +84,8 @@ bool is_in_allocating_call(int frame) { return active[frame].is_active && active
 
 struct instruction {
     unsigned char code;
-    int reg, other, mode; /* of the registers; with one of them the other one is memory, if the mode isn't REGISTERS */
-    int32_t distance;     /* of memory from the other register */
+    int reg, other, mode; /* the other register says where memory is, unless the mode is REGISTERS_ONLY */
+    int32_t distance;     /* of memory from that register */
 };
 
 #define LEAST_BYTES 4
