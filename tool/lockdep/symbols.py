@@ -1,4 +1,5 @@
-"""Where addresses are in the source: one addr2line for each module, after all addresses were gathered."""
+"""Where addresses are in the source: one addr2line for each module, after all addresses were gathered. What that doesn't know of variables, as
+those in split files and most of clang's, the recorder's reader of debug information says."""
 from __future__ import annotations
 
 import os
@@ -16,6 +17,9 @@ PLACE = re.compile(r"(.*?):([0-9]{1,9})(?: (.*))?")
 SHOWN_FROM = "/./"
 WRAPPERS = ("std::", "__gthread", "__gnu_cxx::")
 SYSTEM_HEADERS = ("/usr/include/", "/usr/lib/gcc")
+
+# The recorder's reader of debug information, if it is built.
+READER = os.path.join(os.path.dirname(os.path.dirname(os.path.dirname(os.path.abspath(__file__)))), "recorders", "pthread", "out", "names")
 
 
 @dataclass(frozen=True)
@@ -95,6 +99,7 @@ class Symbols:
 
     def __init__(self) -> None:
         self.wanted: dict[str, dict[int, str]] = {}
+        self.data: dict[str, set[int]] = {}
         self.known: dict[Address, list[Frame]] = {}
         self.answers: dict[tuple[str, int], list[Frame]] = {}
 
@@ -105,6 +110,8 @@ class Symbols:
         else:
             shown = "%s+%x" % (os.path.basename(place.module), place.offset)
             self.wanted.setdefault(place.module, {})[place.looked_up] = shown
+            if not place.is_code:
+                self.data.setdefault(place.module, set()).add(place.looked_up)
 
     def ask(self, patience: int = PATIENCE) -> None:
         for module, addresses in self.wanted.items():
@@ -113,7 +120,20 @@ class Symbols:
                 words = ["addr2line", "-a", "-i", "-f", "-C", b"--exe=" + bytes_of(module)]
                 said = other_answer(words, "".join("0x%x\n" % address for address in addresses).encode(), patience)
             self.take(module, addresses, text_of(said or b"").split("\n"))
+            self.ask_reader(module, addresses, patience)
             self.drop_nearest(module, addresses)
+
+    def ask_reader(self, module: str, addresses: dict[int, str], patience: int) -> None:
+        """Asks about variables whose lines addr2line doesn't know."""
+        unknown = [address for address in sorted(self.data.get(module, ())) if not any(frame.path for frame in self.answers[module, address])]
+        if not unknown or not is_file(module):
+            return
+        given = "".join("0x%x\n" % address for address in unknown).encode()
+        lines = text_of(other_answer([READER, "--lines", bytes_of(module)], given, patience) or b"").split("\n")
+        for address, line in zip(unknown, lines):
+            frame = frame_of("", line, addresses[address])
+            if frame.path:
+                self.answers[module, address] = [frame]
 
     def take(self, module: str, addresses: dict[int, str], lines: list[str]) -> None:
         """Reads the output: for each address a line with it, and then two lines for each function."""

@@ -121,10 +121,10 @@ static int asking_function(Dwarf_Die *scopes, int count, int *line) {
     return count;
 }
 
-static bool by_variable(struct module *m, Dwarf_Die *scopes, int count, uint64_t after, struct found *found) {
+/* The only variable that is declared on the line of the call. */
+static bool variable_there(struct module *m, Dwarf_Die *scopes, int count, uint64_t after, Dwarf_Die *variable) {
     struct declared d = {.count = 0};
     Dwarf_Attribute a;
-    Dwarf_Die type;
     int column;
     if (!line_at(m, after - 1, &d.line, &column))
         return false;
@@ -135,7 +135,13 @@ static bool by_variable(struct module *m, Dwarf_Die *scopes, int count, uint64_t
     if (dwarf_attr(&scopes[asking], DW_AT_abstract_origin, &a))
         dwarf_formref_die(&a, &function);
     note_declared(&function, &d);
-    return d.count == 1 && class_behind(&d.variable, &type) && fits(type, found, RULE_ALLOCATION_VARIABLE);
+    *variable = d.variable;
+    return d.count == 1;
+}
+
+static bool by_variable(struct module *m, Dwarf_Die *scopes, int count, uint64_t after, struct found *found) {
+    Dwarf_Die variable, type;
+    return variable_there(m, scopes, count, after, &variable) && class_behind(&variable, &type) && fits(type, found, RULE_ALLOCATION_VARIABLE);
 }
 
 /* ---- All callers of the allocation, the innermost first. */
@@ -235,13 +241,35 @@ bool only_of_size(struct module *m, Dwarf_Die *unit, bool is_unit_alone, const c
     return is_in_unit && !is_union_unclear;
 }
 
+/* Bytes, and the like. */
+static bool is_for_no_class(Dwarf_Die *variable) {
+    Dwarf_Die pointer, type;
+    bool is_lock;
+    if (!type_of(variable, &pointer) || !peel(&pointer, &is_lock) || is_lock || !is_pointer(dwarf_tag(&pointer)))
+        return false;
+    return !type_of(&pointer, &type) || !peel(&type, &is_lock) || is_lock || !is_class(dwarf_tag(&type));
+}
+
+#define OPERATOR_NEW 1 /* its frames */
+
+/* Memory that locks are put into by hand: an array is one of bytes, what the C++ library allocates is for what its templates say, and what
+   is kept in a pointer to no class is for none. */
+static bool may_be_raw(struct module *m, const struct raw_place *place) {
+    static Dwarf_Die scopes[SCOPES];
+    uint64_t asking = asking_caller(place), after = raw_word_offset(place->callers[asking]);
+    int count = scopes_at(m, after - 1, scopes);
+    Dwarf_Die variable;
+    return place->element == RAW_ARRAY || asking > OPERATOR_NEW || is_of_library(function_name(scopes, count, 0)) ||
+           (variable_there(m, scopes, count, after, &variable) && is_for_no_class(&variable));
+}
+
 /* Only of what `operator new` gave: what C code asks for may have no type at all. */
 bool by_size(const struct raw_place *place, struct found *found) {
     Dwarf_Die unit;
     struct module *m = asking_caller(place) ? allocating_module(place, &unit) : NULL;
     const char *only;
     element = 0;
-    if (!m || !only_of_size(m, &unit, false, &only))
+    if (!m || may_be_raw(m, place) || !only_of_size(m, &unit, false, &only))
         return false;
     *found = (struct found){RULE_SIZE, only};
     return true;

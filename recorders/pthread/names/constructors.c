@@ -74,19 +74,12 @@ static bool is_only_in_unit(struct module *m, Dwarf_Die *function) {
 /* ---- Those that are called. */
 
 #define NEXT_BYTES 96
-#define MOST_CODE (UINT64_C(1) << 18) /* bytes of a function that are looked through */
 #define CALL 0xe8
 #define CALL_BYTES 5
 #define CALL_BY_TABLE 0xff /* and the next byte */
 #define BY_TABLE 0x15
 
-struct code {
-    struct module *module;
-    uint64_t at, size;
-    unsigned char *bytes;
-};
-
-static bool read_code(struct code *code) {
+bool read_code(struct code *code) {
     GElf_Phdr part;
     size_t count;
     bool is_read = false;

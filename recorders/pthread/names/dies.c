@@ -171,6 +171,8 @@ static const char *own_name(Dwarf_Die *die) {
 static const char *put_together(Dwarf_Die *die) {
     Dwarf_Die declared = declaration_of(*die), scope = declared, next;
     bool has_scope = false;
+    if (dwarf_tag(&declared) == DW_TAG_subprogram && !name_of(&declared))
+        return name_of_nameless(&declared);
     while ((has_scope = parent_of(&scope, &next)) && is_left_out(&next))
         scope = next;
     if (!has_scope || !is_scope(dwarf_tag(&next)))

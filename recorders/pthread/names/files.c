@@ -15,12 +15,11 @@ static bool unit_with_file(Dwarf_Die *die, Dwarf_Die *unit, Dwarf_Word *file) {
 }
 
 /* The attribute and the table are read here, since libdw's own function knows no file 0, which clang uses. */
-static const char *file_of(Dwarf_Die *die) {
-    Dwarf_Die unit;
+static const char *file_of(Dwarf_Die *die, Dwarf_Die *unit) {
     Dwarf_Files *files;
     Dwarf_Word file;
     size_t count;
-    if (!unit_with_file(die, &unit, &file) || dwarf_getsrcfiles(&unit, &files, &count) != 0 || file >= count)
+    if (!unit_with_file(die, unit, &file) || dwarf_getsrcfiles(unit, &files, &count) != 0 || file >= count)
         return NULL;
     return dwarf_filesrc(files, file, NULL, NULL);
 }
@@ -72,19 +71,37 @@ void read_sources(struct module *m) {
         return;
     m->has_sources = true;
     while (dwarf_get_units(m->debug, cu, &cu, &version, &kind, &unit, &part) == 0) {
-        Dwarf_Die *told = kind == DW_UT_skeleton && part.addr ? &part : &unit;
+        Dwarf_Die *told = whole_unit(&unit, kind, &part);
         const char *name = name_of(told);
         if (name)
             PUSH(m->sources, m->source_count, absolute(dwarf_hasattr(told, DW_AT_comp_dir) ? told : &unit, name));
     }
 }
 
+void add_source(struct module *m, const char *path) {
+    size_t i = 0;
+    while (i < m->source_count && strcmp(m->sources[i], path) != 0)
+        i++;
+    if (i == m->source_count)
+        PUSH(m->sources, m->source_count, path);
+}
+
+const char *path_of(Dwarf_Die *die) {
+    Dwarf_Die unit;
+    const char *path = file_of(die, &unit);
+    return path ? absolute(&unit, path) : NULL;
+}
+
+const char *header_of(Dwarf_Die *die) {
+    const char *path = path_of(die);
+    return path && !is_source(path) ? path : NULL;
+}
+
 /* A text is `PATH MARK base name:the rest`. */
 #define AFTER_PATH '\x1f'
 
-static const char *with_path(Dwarf_Die *die, const char *file) {
-    Dwarf_Die unit;
-    const char *path = dwarf_diecu(die, &unit, NULL, NULL) ? absolute(&unit, file) : file;
+static const char *with_path(Dwarf_Die *unit, const char *file) {
+    const char *path = absolute(unit, file);
     return written("%s%c%s:", path, AFTER_PATH, base_of(path));
 }
 
@@ -93,11 +110,27 @@ const char *after_path(const char *text) {
     return mark ? mark + 1 : text;
 }
 
-/* A type of a header is the same in all files, a static variable never is. */
+/* Whether each unit that has the variable's file has one of its own. One of a function is as that function is. */
+static bool is_of_unit(Dwarf_Die *variable, const char *qualified_name) {
+    Dwarf_Die scope = declaration_of(*variable), next;
+    bool is_shared = flag_of(variable, DW_AT_external);
+    while (!is_shared && parent_of(&scope, &next)) {
+        is_shared = dwarf_tag(&next) == DW_TAG_subprogram && flag_of(&next, DW_AT_external);
+        scope = next;
+    }
+    return !is_shared || strstr(qualified_name, ANONYMOUS);
+}
+
+/* A type of a header is the same in all files, unless another header has one of that name in C. A static variable never is. One with
+   internal linkage has its unit's source for a file, since a header gives one to each. */
 const char *file_mark(Dwarf_Die *die, const char *qualified_name) {
-    const char *path = file_of(die);
-    bool is_local = path && (is_source(path) || dwarf_tag(die) == DW_TAG_variable || strstr(qualified_name, ANONYMOUS));
-    return is_local ? with_path(die, path) : "";
+    Dwarf_Die unit;
+    const char *path = file_of(die, &unit);
+    bool is_variable = dwarf_tag(die) == DW_TAG_variable;
+    if (path && is_variable && is_of_unit(die, qualified_name) && name_of(&unit))
+        path = name_of(&unit);
+    bool is_local = path && (is_source(path) || is_variable || strstr(qualified_name, ANONYMOUS) || is_one_of_several(die));
+    return is_local ? with_path(&unit, path) : "";
 }
 
 const char *without_anonymous(const char *qualified_name) {

@@ -29,6 +29,33 @@ static bool is_thread_address(const Dwarf_Op *operation) {
     return operation->atom == DW_OP_form_tls_address || operation->atom == DW_OP_GNU_push_tls_address;
 }
 
+/* Of a split file it is in a table: from clang the offset, and from gcc the address. What may be either is neither. */
+static bool thread_offset_in_table(const struct module *m, uint64_t word, uint64_t *at) {
+    GElf_Phdr part;
+    size_t count = 0;
+    bool is_offset = false, is_address = false;
+    if (!m->elf || elf_getphdrnum(m->elf, &count) != 0)
+        return false;
+    for (size_t i = 0; i < count; i++) {
+        if (!gelf_getphdr(m->elf, (int)i, &part) || part.p_type != PT_TLS)
+            continue;
+        is_offset = word < part.p_memsz;
+        is_address = word - part.p_vaddr < part.p_memsz;
+        *at = is_address ? word - part.p_vaddr : word;
+    }
+    return is_offset != is_address;
+}
+
+static bool thread_offset_of(const struct module *m, Dwarf_Attribute *a, Dwarf_Op *operation, uint64_t *at) {
+    Dwarf_Attribute indirect;
+    Dwarf_Word word;
+    *at = operation->number;
+    if (operation->atom != DW_OP_constx && operation->atom != DW_OP_GNU_const_index)
+        return true;
+    return dwarf_getlocation_attr(a, operation, &indirect) == 0 && dwarf_formudata(&indirect, &word) == 0 &&
+           thread_offset_in_table(m, word, at);
+}
+
 static void index_variable(struct module *m, Dwarf_Die *die) {
     Dwarf_Attribute a;
     Dwarf_Op *operations;
@@ -37,10 +64,17 @@ static void index_variable(struct module *m, Dwarf_Die *die) {
     if (!has_plain_location(die, &a) || dwarf_getlocation(&a, &operations, &count) != 0)
         return;
     if (count == 2 && is_thread_address(&operations[1])) {
-        v.at = operations[0].number;
-        PUSH(m->thread_variables, m->thread_variable_count, v);
+        if (thread_offset_of(m, &a, operations, &v.at))
+            PUSH(m->thread_variables, m->thread_variable_count, v);
     } else if (count == 1 && address_of(&a, operations, &v.at) && v.at)
         PUSH(m->variables, m->variable_count, v);
+}
+
+bool address_of_variable(Dwarf_Die *die, uint64_t *at) {
+    Dwarf_Attribute a;
+    Dwarf_Op *operations;
+    size_t count;
+    return has_plain_location(die, &a) && dwarf_getlocation(&a, &operations, &count) == 0 && count == 1 && address_of(&a, operations, at);
 }
 
 /* A class without a name may have that of a typedef, but is only a part of a class that it is in. */
@@ -50,6 +84,15 @@ static void index_type(struct module *m, Dwarf_Die *die, bool is_in_class) {
     struct indexed_type type = {name ? name : "", number_of(die, DW_AT_byte_size, 0), *die};
     if ((name || !is_in_class) && !dwarf_hasattr(die, DW_AT_declaration))
         PUSH(m->types, m->type_count, type);
+}
+
+/* The name that a typedef gives to a class of the file that has none of its own. */
+static void index_typedef(struct module *m, Dwarf_Die *die) {
+    Dwarf_Die class;
+    if (!name_of(die) || !type_of(die, &class) || !is_class(dwarf_tag(&class)) || name_of(&class))
+        return;
+    struct indexed_type type = {name_of(die), number_of(&class, DW_AT_byte_size, 0), class};
+    PUSH(m->typedefs, m->typedef_count, type);
 }
 
 static void index_below(struct module *m, Dwarf_Die *die, int depth) {
@@ -62,6 +105,8 @@ static void index_below(struct module *m, Dwarf_Die *die, int depth) {
             index_variable(m, &child);
         if (is_class(tag))
             index_type(m, &child, is_class(dwarf_tag(die)));
+        if (tag == DW_TAG_typedef && depth == 0)
+            index_typedef(m, &child);
         if (is_class(tag) || tag == DW_TAG_namespace || tag == DW_TAG_lexical_block ||
             (tag == DW_TAG_subprogram && !dwarf_hasattr(&child, DW_AT_declaration)))
             index_below(m, &child, depth + 1);
@@ -95,17 +140,18 @@ void index_module(struct module *m) {
         return;
     m->is_indexed = true;
     while (dwarf_get_units(m->debug, cu, &cu, &version, &kind, &unit, &part) == 0)
-        index_below(m, kind == DW_UT_skeleton && part.addr ? &part : &unit, 0);
+        index_below(m, whole_unit(&unit, kind, &part), 0);
     sort(m->variables, m->variable_count, sizeof *m->variables, by_address);
     sort(m->thread_variables, m->thread_variable_count, sizeof *m->thread_variables, by_address);
     sort(m->types, m->type_count, sizeof *m->types, by_name);
+    sort(m->typedefs, m->typedef_count, sizeof *m->typedefs, by_name);
 }
 
-static size_t first_named(const struct module *m, const char *name) {
-    size_t low = 0, high = m->type_count;
+size_t first_named(const struct indexed_type *types, size_t count, const char *name) {
+    size_t low = 0, high = count;
     while (low < high) {
         size_t middle = (low + high) / 2;
-        if (strcmp(m->types[middle].name, name) < 0)
+        if (strcmp(types[middle].name, name) < 0)
             low = middle + 1;
         else
             high = middle;
@@ -115,7 +161,7 @@ static size_t first_named(const struct module *m, const char *name) {
 
 static bool defined_in(struct module *m, const char *name, const char *wanted, Dwarf_Die *type) {
     index_module(m);
-    for (size_t i = first_named(m, name); i < m->type_count && strcmp(m->types[i].name, name) == 0; i++) {
+    for (size_t i = first_named(m->types, m->type_count, name); i < m->type_count && strcmp(m->types[i].name, name) == 0; i++) {
         Dwarf_Die die = m->types[i].die;
         if (strcmp(qualified(&die), wanted) == 0) {
             *type = die;
@@ -125,8 +171,8 @@ static bool defined_in(struct module *m, const char *name, const char *wanted, D
     return false;
 }
 
-#define C_PLUS_PLUS_17 0x2b /* languages that an older header doesn't know */
-#define C_PLUS_PLUS_20 0x2c
+#define C_PLUS_PLUS_17 0x2a /* languages that an older header doesn't know */
+#define C_PLUS_PLUS_20 0x2b
 
 /* Whether a class of that name is the same one in all modules of a program: one of C++ that isn't a file's own. */
 static bool is_of_all_modules(Dwarf_Die *type, const char *wanted) {

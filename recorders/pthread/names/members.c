@@ -9,6 +9,7 @@ struct search {
     const struct value *value; /* the object whose members are looked at */
     struct found *found;
     int hops; /* how many more pointers may be followed */
+    bool *is_unclear; /* members don't agree: one of them points to what was there before */
 };
 
 struct holder {
@@ -16,11 +17,17 @@ struct holder {
     bool is_owner;    /* what it points to is its own: it is of a class of the C++ library that frees it */
 };
 
-static bool search_at(Dwarf_Die type, uint64_t offset, const struct search *s, struct holder holder, int depth);
+static void search_at(Dwarf_Die type, uint64_t offset, const struct search *s, struct holder holder, int depth);
+
+static void note(const struct search *s, enum rule rule, const char *text) {
+    *s->is_unclear |= s->found->text && strcmp(s->found->text, text) != 0;
+    if (!s->found->text)
+        *s->found = (struct found){rule, text, NULL};
+}
 
 /* The memory of one lock, or of an array of them, is held by the member. Of bare locks the member has to be the owner: a guard, for
    example, points to locks of others. */
-static bool is_held(Dwarf_Die to, uint64_t word, struct holder holder, struct found *found) {
+static bool is_held(Dwarf_Die to, uint64_t word, struct holder holder, const struct search *s) {
     struct path path = {.count = 0};
     Dwarf_Die peeled = to;
     bool is_lock;
@@ -30,45 +37,42 @@ static bool is_held(Dwarf_Die to, uint64_t word, struct holder holder, struct fo
     uint64_t size = is_lock ? BARE_LOCK : size_of(&peeled);
     if (!size || !find_lock(to, (look->lock - word) % size, &path))
         return false;
-    found->text = text_of(&path);
-    found->rule = found->text ? RULE_POINTER : RULE_HOLDER;
-    if (!found->text && holder.is_owner)
-        found->text = written("%s%s", holder.text, look->piece_bytes > size ? "[]" : "");
-    if (!found->text)
-        found->rule = RULE_NONE;
-    return found->text != NULL;
+    const char *text = text_of(&path);
+    if (text)
+        note(s, RULE_POINTER, text);
+    else if (holder.is_owner)
+        note(s, RULE_HOLDER, written("%s%s", holder.text, look->piece_bytes > size ? "[]" : ""));
+    return text || holder.is_owner;
 }
 
-static bool search_pointer(Dwarf_Die type, uint64_t offset, const struct search *s, struct holder holder, int depth) {
+static void search_pointer(Dwarf_Die type, uint64_t offset, const struct search *s, struct holder holder, int depth) {
     struct value object = {.kind = IN_MEMORY};
-    struct search inner = {&object, s->found, s->hops - 1};
+    struct search inner = *s;
+    struct found one = {RULE_NONE, NULL, NULL};
     Dwarf_Die to;
     uint64_t probe;
     bool unused;
     if (!word_of_value(s->value, offset, &object.at) || !object.at || !type_of(&type, &to))
-        return false;
-    if (has_lock(to, object.at, s->found, &unused)) {
-        s->found->rule = RULE_POINTER;
-        return true;
-    }
-    if (is_held(to, object.at, holder, s->found))
-        return true;
-    return s->hops > 0 && read_word(object.at, &probe) && search_at(to, 0, &inner, (struct holder){NULL, false}, depth + 1);
+        return;
+    inner.value = &object;
+    inner.hops--;
+    if (has_lock(to, object.at, &one, &unused))
+        note(s, RULE_POINTER, one.text);
+    else if (!is_held(to, object.at, holder, s) && s->hops > 0 && read_word(object.at, &probe))
+        search_at(to, 0, &inner, (struct holder){NULL, false}, depth + 1);
 }
 
-static bool search_array(Dwarf_Die type, uint64_t offset, const struct search *s, struct holder holder, int depth) {
+static void search_array(Dwarf_Die type, uint64_t offset, const struct search *s, struct holder holder, int depth) {
     Dwarf_Die element, peeled;
     bool is_lock;
     if (!type_of(&type, &element))
-        return false;
+        return;
     peeled = element;
     if (!peel(&peeled, &is_lock) || is_lock)
-        return false;
+        return;
     uint64_t size = is_pointer(dwarf_tag(&peeled)) ? sizeof(uint64_t) : size_of(&peeled), all = size_of(&type);
     for (uint64_t at = 0; size && at < all && at < MOST_ELEMENTS * size; at += size)
-        if (search_at(element, offset + at, s, holder, depth + 1))
-            return true;
-    return false;
+        search_at(element, offset + at, s, holder, depth + 1);
 }
 
 static bool is_owner(const char *class) {
@@ -92,36 +96,37 @@ static struct holder holder_of(Dwarf_Die *type, Dwarf_Die *member, struct holder
     return (struct holder){written("%s%s::%s", file_mark(type, name), without_anonymous(name), name_of(member)), false};
 }
 
-static bool search_class(Dwarf_Die type, uint64_t offset, const struct search *s, struct holder holder, int depth) {
+static void search_class(Dwarf_Die type, uint64_t offset, const struct search *s, struct holder holder, int depth) {
     Dwarf_Die part, part_type;
     Dwarf_Attribute a;
     if (dwarf_child(&type, &part) != 0)
-        return false;
+        return;
     do {
         int tag = dwarf_tag(&part);
         Dwarf_Word at = 0;
         if ((tag != DW_TAG_member && tag != DW_TAG_inheritance) || flag_of(&part, DW_AT_external) ||
             (dwarf_attr(&part, DW_AT_data_member_location, &a) && dwarf_formudata(&a, &at) != 0) || !type_of(&part, &part_type))
             continue;
-        if (search_at(part_type, offset + at, s, holder_of(&type, &part, holder), depth + 1))
-            return true;
+        search_at(part_type, offset + at, s, holder_of(&type, &part, holder), depth + 1);
     } while (dwarf_siblingof(&part, &part) == 0);
-    return false;
 }
 
-static bool search_at(Dwarf_Die type, uint64_t offset, const struct search *s, struct holder holder, int depth) {
+/* All members are looked at, since one may point to what was there before. */
+static void search_at(Dwarf_Die type, uint64_t offset, const struct search *s, struct holder holder, int depth) {
     bool is_lock;
     if (depth > DEEPEST || !peel(&type, &is_lock) || is_lock)
-        return false;
+        return;
     int tag = dwarf_tag(&type);
     if (is_pointer(tag))
-        return search_pointer(type, offset, s, holder, depth);
-    if (tag == DW_TAG_array_type)
-        return search_array(type, offset, s, holder, depth);
-    return is_class(tag) && define(&type) && search_class(type, offset, s, holder, depth);
+        search_pointer(type, offset, s, holder, depth);
+    else if (tag == DW_TAG_array_type)
+        search_array(type, offset, s, holder, depth);
+    else if (is_class(tag) && define(&type))
+        search_class(type, offset, s, holder, depth);
 }
 
-bool search_members(Dwarf_Die type, const struct value *value, struct found *found, int hops) {
-    struct search s = {value, found, hops};
-    return search_at(type, 0, &s, (struct holder){NULL, false}, 0);
+bool search_members(Dwarf_Die type, const struct value *value, struct found *found, int hops, bool *is_unclear) {
+    struct search s = {value, found, hops, is_unclear};
+    search_at(type, 0, &s, (struct holder){NULL, false}, 0);
+    return found->text != NULL;
 }

@@ -88,7 +88,7 @@ static bool is_as_it_ran(const char *path) {
     struct stat about;
     if (stat(path, &about) != 0 || !S_ISREG(about.st_mode))
         return false;
-    return (uint64_t)about.st_mtim.tv_sec * 1000000000 + (uint64_t)about.st_mtim.tv_nsec < arena->started;
+    return !arena || (uint64_t)about.st_mtim.tv_sec * 1000000000 + (uint64_t)about.st_mtim.tv_nsec < arena->started;
 }
 
 static void open_module(struct module *m) {
@@ -105,15 +105,30 @@ static void open_module(struct module *m) {
     find_bounds(m);
 }
 
+Dwarf_Die *whole_unit(Dwarf_Die *unit, uint8_t kind, Dwarf_Die *part) { return kind == DW_UT_skeleton && part->addr ? part : unit; }
+
+static void find_parts(struct module *m) {
+    Dwarf_CU *cu = NULL;
+    Dwarf_Die unit, part;
+    uint8_t kind;
+    Dwarf_Half version;
+    while (dwarf_get_units(m->debug, cu, &cu, &version, &kind, &unit, &part) == 0)
+        if (whole_unit(&unit, kind, &part) == &part)
+            PUSH(m->parts, m->part_count, dwarf_cu_getdwarf(part.cu));
+}
+
 bool has_debug(struct module *m) {
     Dwarf_Addr bias;
-    if (!m->is_debug_known)
-        m->debug = m->file ? dwfl_module_getdwarf(m->file, &bias) : NULL;
+    if (m->is_debug_known)
+        return m->debug;
     m->is_debug_known = true;
+    m->debug = m->file ? dwfl_module_getdwarf(m->file, &bias) : NULL;
+    if (m->debug)
+        find_parts(m);
     return m->debug;
 }
 
-static struct module *module_named(const char *path) {
+struct module *module_named(const char *path) {
     for (size_t i = 0; i < module_count; i++)
         if (strcmp(modules[i]->path, path) == 0)
             return modules[i];
@@ -179,21 +194,18 @@ const struct loaded *loaded_at(uint64_t address) {
 
 bool is_recorder(const struct module *m) { return strcmp(base_of(m->path), "preload.so") == 0; }
 
-static bool has_unit(const struct module *m, const Dwarf_CU *cu) {
-    for (size_t i = 0; i < m->range_count; i++)
-        if (m->ranges[i].unit.cu == cu)
+static bool has_part(const struct module *m, const Dwarf *debug) {
+    for (size_t i = 0; i < m->part_count; i++)
+        if (m->parts[i] == debug)
             return true;
-    return false;
+    return m->debug == debug;
 }
 
 /* The units of split files are another's than the module's. */
 struct module *module_of_die(Dwarf_Die *die) {
-    Dwarf *debug = dwarf_cu_getdwarf(die->cu);
+    const Dwarf *debug = dwarf_cu_getdwarf(die->cu);
     for (size_t i = 0; i < module_count; i++)
-        if (modules[i]->debug && modules[i]->debug == debug)
-            return modules[i];
-    for (size_t i = 0; i < module_count; i++)
-        if (has_unit(modules[i], die->cu))
+        if (modules[i]->debug && has_part(modules[i], debug))
             return modules[i];
     return NULL;
 }

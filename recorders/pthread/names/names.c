@@ -8,6 +8,10 @@
      source PATH             a source file of these, but for what comes with the system
      CLASS <tab> RULE <tab> TEXT [<tab> PATH]    PATH is of the file that TEXT begins with
 
+     names --lines MODULE
+
+   For each address on standard input, of a static variable of the module, it writes `PATH:LINE`, or `??:0`.
+
    Names are found once, right after the program has ended, as long as its files are still those that ran. Debug information may be
    damaged, so it is read by a process of its own: what that ends with has no names. */
 #include "names.h"
@@ -96,12 +100,12 @@ static void write_found(FILE *file, uint32_t class, const struct found *found) {
 /* Those of a module that several programs have are written once. */
 static void write_sources(FILE *file, struct module *m) {
     read_sources(m);
-    for (size_t i = 0; i < m->source_count && !m->is_written; i++) {
+    for (; m->sources_written < m->source_count; m->sources_written++) {
+        const char *path = m->sources[m->sources_written];
         fputs("source ", file);
-        write_text(file, m->sources[i], strlen(m->sources[i]));
+        write_text(file, path, strlen(path));
         putc('\n', file);
     }
-    m->is_written = true;
 }
 
 static void write_modules(FILE *file) {
@@ -148,12 +152,16 @@ static void name_program(const char *arena, const char *names) {
 
 #define NOBODY (-1)
 
-/* Of the arenas from one on. A pipe, or nobody, has the number of the one that is read, so that one that ends the reader is passed over. */
-static void read_from(char **arenas, size_t count, size_t from, int told) {
+static void limit_process(void) {
     const struct rlimit memory = {MOST_MEMORY, MOST_MEMORY}, none = {0, 0}, seconds = {MOST_SECONDS, MOST_SECONDS};
     setrlimit(RLIMIT_DATA, &memory);
     setrlimit(RLIMIT_CORE, &none);
     setrlimit(RLIMIT_CPU, &seconds);
+}
+
+/* Of the arenas from one on. A pipe, or nobody, has the number of the one that is read, so that one that ends the reader is passed over. */
+static void read_from(char **arenas, size_t count, size_t from, int told) {
+    limit_process();
     for (size_t i = from; i < count; i++) {
         if (told != NOBODY && write(told, &i, sizeof i) != sizeof i)
             _exit(2);
@@ -190,8 +198,13 @@ int main(int argc, char **argv) {
     struct dirent **entries;
     char **arenas = NULL;
     size_t count = 0;
+    if (argc == 3 && strcmp(argv[1], "--lines") == 0) {
+        limit_process();
+        tell_lines(argv[2]);
+        return 0;
+    }
     if (argc != 2) {
-        fputs("usage: names FOLDER\n", stderr);
+        fputs("usage: names FOLDER, or names --lines MODULE\n", stderr);
         return 2;
     }
     const char *raw = written("%s/raw", argv[1]);

@@ -65,21 +65,23 @@ struct module {
     const char *path;
     Dwfl_Module *file; /* NULL if it can't be read */
     Dwarf *debug;      /* by has_debug; NULL if it has no debug information */
+    Dwarf **parts;     /* its split files */
+    size_t part_count;
     Elf *elf;
     uint64_t from, to; /* its addresses in the file */
-    bool is_debug_known, has_ranges, is_indexed, has_symbols, has_sources, is_written; /* its sources */
+    bool is_debug_known, has_ranges, is_indexed, has_symbols, has_sources;
     struct unit_range *ranges;
     size_t range_count;
     struct unit_functions *units;
     size_t unit_count;
     struct variable *variables, *thread_variables;
     size_t variable_count, thread_variable_count;
-    struct indexed_type *types;
-    size_t type_count;
+    struct indexed_type *types, *typedefs; /* the second of classes that have no other name */
+    size_t type_count, typedef_count;
     struct symbol *symbols;
     size_t symbol_count;
-    const char **sources; /* the source files of its units */
-    size_t source_count;
+    const char **sources; /* the source files of its units, and headers that have types of one name */
+    size_t source_count, sources_written;
 };
 
 struct loaded { /* a module where a process had it */
@@ -93,6 +95,8 @@ const void *part_of(enum raw_kind kind, uint32_t number);
 const struct loaded *loaded_at(uint64_t address);      /* NULL also if it isn't clear which */
 const struct loaded *loaded_numbered(uint32_t number); /* of the arena's modules */
 bool has_debug(struct module *m); /* opens its debug information, which may take long */
+Dwarf_Die *whole_unit(Dwarf_Die *unit, uint8_t kind, Dwarf_Die *part); /* a unit, or what a split file has of it */
+struct module *module_named(const char *path); /* which may have changed since, if no arena is open */
 bool is_recorder(const struct module *m);
 struct module *module_of_die(Dwarf_Die *die);
 const char *base_of(const char *path);
@@ -113,13 +117,24 @@ bool template_argument(Dwarf_Die *die, Dwarf_Die *type);
 const char *qualified(Dwarf_Die *die); /* the name with its scopes */
 bool is_of_library(const char *qualified_name);
 
+/* ---- nameless.c */
+
+const char *name_of_nameless(Dwarf_Die *function); /* of one without a name, with its scopes */
+
 /* ---- files.c */
 
 const char *file_mark(Dwarf_Die *die, const char *qualified_name); /* `store.cpp:` after its path, where another file may use the name too, else empty */
 const char *after_path(const char *text); /* the text without that path */
+const char *path_of(Dwarf_Die *die); /* of the file that declares it; NULL if that isn't known */
+const char *header_of(Dwarf_Die *die); /* the path of the header that declares it; NULL if that is no header */
 void read_sources(struct module *m);
+void add_source(struct module *m, const char *path);
 #define ANONYMOUS "{anonymous}::" /* the scope of what is a file's own, in a name */
 const char *without_anonymous(const char *qualified_name);
+
+/* ---- tags.c */
+
+bool is_one_of_several(Dwarf_Die *type); /* another header of the module has one of that name that isn't the same */
 
 /* ---- types.c */
 
@@ -152,7 +167,9 @@ const char *weak_text_of(const struct path *path); /* a class that is a lock its
 /* ---- index.c: what a module has. */
 
 void index_module(struct module *m);
+size_t first_named(const struct indexed_type *types, size_t count, const char *name); /* where those of that name begin */
 bool index_die(Dwarf_Die *type); /* finds the definition of a declared type by its name */
+bool address_of_variable(Dwarf_Die *die, uint64_t *at); /* of a static one */
 
 /* ---- units.c: code by address. */
 
@@ -236,6 +253,8 @@ struct found {
     const char *member; /* of a lock without a text, in a structure without a name: how a variable leads to it, such as `.in`; else NULL */
 };
 
+void tell_lines(const char *module); /* where the static variables are declared whose addresses are on standard input */
+
 /* variables.c: by what is in the module or in a frame, wherever it was met. */
 bool static_variable(struct module *m, uint64_t at, struct found *found);
 bool thread_variable(struct module *m, uint64_t at, struct found *found);
@@ -245,11 +264,23 @@ bool frame_variable(const struct raw_class *class, struct found *found, bool *is
 bool has_lock(Dwarf_Die type, uint64_t at, struct found *found, bool *is_bare);
 bool search_frames(struct found *found, struct found *bare);
 
+/* stale.c: variables that point to what lay there before. */
+void find_active_frames(void);
+bool is_in_allocating_call(int frame);
+bool is_stale(Dwarf_Die *variable, Dwarf_Die *scope, int frame, uint64_t address, const struct value *value);
+
 /* constructors.c */
+#define MOST_CODE (UINT64_C(1) << 18) /* bytes of a function that are looked through */
+struct code {
+    struct module *module;
+    uint64_t at, size;
+    unsigned char *bytes;
+};
+bool read_code(struct code *code);
 bool by_constructor(struct module *m, Dwarf_Die *scopes, int count, uint64_t after, struct found *found);
 
 /* members.c */
-bool search_members(Dwarf_Die type, const struct value *value, struct found *found, int hops);
+bool search_members(Dwarf_Die type, const struct value *value, struct found *found, int hops, bool *is_unclear);
 
 /* allocations.c: by where the memory was allocated. */
 bool lock_in_piece(Dwarf_Die type, struct path *path); /* an object of the type, or an array of them, in that memory has the lock where it is */

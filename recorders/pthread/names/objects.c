@@ -101,14 +101,14 @@ static bool is_it(struct variable_here *v, struct scopes *s, int scope, struct f
 }
 
 /* What its members point to, or those of the object that it points to. */
-static bool leads_to_it(struct variable_here *v, struct found *found, int hops) {
+static bool leads_to_it(struct variable_here *v, struct found *found, int hops, bool *is_unclear) {
     struct value object = {.kind = IN_MEMORY};
     Dwarf_Die to;
     if (!is_pointer(dwarf_tag(&v->peeled)))
-        return search_members(v->type, &v->value, found, hops);
+        return search_members(v->type, &v->value, found, hops, is_unclear);
     if (!word_of_value(&v->value, 0, &object.at) || !object.at || !type_of(&v->peeled, &to))
         return false;
-    return search_members(to, &object, found, hops);
+    return search_members(to, &object, found, hops, is_unclear);
 }
 
 /* ---- All variables of a scope. In the first round they are the object or point to it, in the next ones their members do. */
@@ -122,11 +122,14 @@ struct round {
     bool *is_unclear; /* variables of one scope don't agree: one of them points to what was there before */
 };
 
-/* What one variable says. */
+/* What one variable says. If it isn't of now, it may be of what was there before: what an object in memory has may have been set since, and what
+   a pointer leads to as well. */
 static bool look_at_variable(const struct round *r, struct scopes *s, int scope, struct variable_here *v, struct found *found) {
     if (!is_variable(&v->die) || !is_declared(&v->die, s->lines[scope]) || !read_variable(v, r->frame, r->address))
         return false;
-    return r->number == 0 ? is_it(v, s, scope, found, r->bare) : leads_to_it(v, found, r->number - 1);
+    bool is_of_now = is_pointer(dwarf_tag(&v->peeled)) ? r->number > 0 : v->value.kind == IN_MEMORY;
+    bool is_found = r->number == 0 ? is_it(v, s, scope, found, r->bare) : leads_to_it(v, found, r->number - 1, r->is_unclear);
+    return is_found && (is_of_now || !is_stale(&v->die, &s->list[scope], r->frame, r->address, &v->value));
 }
 
 static bool search_scope(const struct round *r, struct scopes *s, int scope) {
@@ -163,7 +166,7 @@ static bool search_arguments(int frame, struct found *found) {
     Dwarf_Die site, function, parameter, type, to;
     uint64_t word;
     bool unused;
-    if (!site_of(frame, &site) || !called_by(&site, &function) || dwarf_child(&function, &parameter) != 0)
+    if (is_in_allocating_call(frame) || !site_of(frame, &site) || !called_by(&site, &function) || dwarf_child(&function, &parameter) != 0)
         return false;
     do {
         if (dwarf_tag(&parameter) != DW_TAG_formal_parameter || argument == sizeof registers / sizeof *registers)
@@ -222,6 +225,7 @@ static bool search_frame(const struct round *r) {
 
 bool search_frames(struct found *found, struct found *bare) {
     read_scopes();
+    find_active_frames();
     bool is_unclear = false;
     for (int i = 0; i < ROUNDS * frame_count && !found->text; i++) {
         int frame = i % frame_count;

@@ -31,7 +31,7 @@ static void read_ranges(struct module *m) {
     m->has_ranges = true;
     while (dwarf_get_units(m->debug, cu, &cu, &version, &kind, &unit, &part) == 0)
         if (kind == DW_UT_compile || kind == DW_UT_skeleton || kind == DW_UT_partial)
-            add_ranges(m, &unit, kind == DW_UT_skeleton && part.addr ? &part : &unit);
+            add_ranges(m, &unit, whole_unit(&unit, kind, &part));
     if (m->range_count)
         qsort(m->ranges, m->range_count, sizeof *m->ranges, by_range);
 }

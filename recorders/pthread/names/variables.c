@@ -61,6 +61,25 @@ bool thread_variable(struct module *m, uint64_t at, struct found *found) {
     return variable_at(m->thread_variables, m->thread_variable_count, at, found);
 }
 
+/* ---- Where they are declared. */
+
+static const char *line_of_variable(struct module *m, uint64_t at) {
+    size_t i = 0;
+    while (i < m->variable_count && m->variables[i].at != at)
+        i++;
+    Dwarf_Die die = i < m->variable_count ? m->variables[i].die : (Dwarf_Die){0};
+    const char *path = die.addr ? path_of(&die) : NULL;
+    return path ? written("%s:%u", path, (unsigned)number_of(&die, DW_AT_decl_line, 0)) : "??:0";
+}
+
+void tell_lines(const char *module) {
+    struct module *m = module_named(module);
+    char line[64];
+    index_module(m);
+    while (fgets(line, sizeof line, stdin))
+        puts(line_of_variable(m, strtoull(line, NULL, 16)));
+}
+
 /* ---- Of a frame. */
 
 struct wanted {
