@@ -36,6 +36,8 @@ final class MethodRewriter {
     /** Where constructors are called that are told their places. */
     private final Map<Integer, Integer> told = new HashMap<>();
     private boolean isChanged;
+    private boolean hasMonitor;
+    private boolean hasNew;
     private Bytes written;
     /** Whether it enters its monitor by instructions. */
     private boolean isByItself;
@@ -74,10 +76,10 @@ final class MethodRewriter {
     boolean rewrite() {
         if (method.isSynchronized() && !new Frames(type, method, descriptor).keepThis())
                 throw new IllegalStateException("its method " + name + " changes `this`");
-        if (new Unmade(type, method).mayBeLocked())
-                throw new IllegalStateException("its method " + name + " locks an object that isn't made yet");
         isByItself = method.isSynchronized() && isToEnterByItself();
         passAll();
+        if (hasMonitor && (hasNew || method.isConstructor) && new Unmade(type, method).mayBeLocked())
+                throw new IllegalStateException("its method " + name + " locks an object that isn't made yet");
         if (method.isSynchronized()) wrap();
         if (isChanged) written = code.write();
         return isChanged;
@@ -125,10 +127,16 @@ final class MethodRewriter {
     private void rewrite(int opcode, int at, int next) {
         if (opcode <= Opcodes.INVOKEINTERFACE) rewriteCall(opcode, at, next);
         else if (opcode == Opcodes.INVOKEDYNAMIC && wanted.matters(type.number(at + 1))) rewriteReferences(at);
-        else if (opcode == Opcodes.MONITORENTER) call(site(before(at).put(Opcodes.DUP)), Hook.ENTER);
-        else if (opcode == Opcodes.MONITOREXIT) call(before(at).put(Opcodes.DUP), Hook.EXIT);
-        else if (opcode == Opcodes.NEW) news.push(at);
+        else if (opcode == Opcodes.MONITORENTER || opcode == Opcodes.MONITOREXIT) rewriteMonitor(opcode, at);
+        else if (opcode == Opcodes.NEW) beginNew(at);
         else if (isArray(opcode) && isKeptInLockedField(next)) noteMade(at, next, -1);
+    }
+
+    private void rewriteMonitor(int opcode, int at) {
+        Bytes added = before(at).put(Opcodes.DUP);
+        if (opcode == Opcodes.MONITORENTER) call(site(added), Hook.ENTER);
+        else call(added, Hook.EXIT);
+        hasMonitor = true;
     }
 
     private static boolean isArray(int opcode) {
@@ -248,6 +256,11 @@ final class MethodRewriter {
     }
 
     // ---- Objects that are made.
+
+    private void beginNew(int at) {
+        news.push(at);
+        hasNew = true;
+    }
 
     private void endNew(int called, int at, int next) {
         if (!news.isEmpty() && isSameClass(type.number(news.peek() + 1), type.part(called, 1))) {

@@ -42,9 +42,9 @@ final class Unmade {
         this.method = method;
     }
 
-    /** Whether a monitor of the method may be one of such an object. */
+    /** Whether a monitor of the method may be one of such an object. Most methods needn't be asked: they have no monitor, or make no object. */
     boolean mayBeLocked() {
-        if (type.version < Opcodes.V1_6 || !isToBeLookedAt()) return false;
+        if (type.version < Opcodes.V1_6) return false;
         isThisUnmade = isInFrame = method.isConstructor;
         if (isThisUnmade) variables.add(0);
         while (addVariables()) { }
@@ -64,17 +64,6 @@ final class Unmade {
 
     private boolean isMonitor(int at) {
         return type.opcode(at) == Opcodes.MONITORENTER || type.opcode(at) == Opcodes.MONITOREXIT;
-    }
-
-    /** Most methods have no monitor, or make no object. */
-    private boolean isToBeLookedAt() {
-        boolean hasMonitor = false;
-        boolean hasNew = method.isConstructor;
-        for (int at = method.start; at < method.end; at = type.after(at, method)) {
-            hasMonitor |= isMonitor(at);
-            hasNew |= type.opcode(at) == Opcodes.NEW;
-        }
-        return hasMonitor && hasNew;
     }
 
     // ---- What is being made.
