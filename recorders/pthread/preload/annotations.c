@@ -154,10 +154,11 @@ void keep_nesting(uintptr_t lock) {
 
 /* That acquisition of the lock is here. Returns whether it is still the same lock. */
 bool end_nesting(uintptr_t lock) {
+    uint32_t object = self.midst.nested_object;
     if (self.midst.nested_lock != lock)
         return false;
     self.midst.nested_lock = 0;
-    return !is_single(self.midst.nested_object) || lock_object(lock) == self.midst.nested_object;
+    return !object || !is_single(object) || lock_object(lock) == object;
 }
 
 void forget_words(uintptr_t lock) {
