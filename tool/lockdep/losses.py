@@ -135,7 +135,7 @@ COUNTS: dict[str, tuple[str, ...]] = {  # several sentences if recorders count d
                   "calls from a signal handler or a finaliser that interrupted the recorder" + AN_ORDER,
                   "operations that interrupted the recorder, as in a signal handler" + AN_ORDER),
     "interrupted": ("threads that an error of a signal handler interrupted in the recorder: their traces end there",
-                    "threads that an error interrupted in the recorder, as of a full stack: their traces end there"),
+                    "threads that an error interrupted in the recorder, as of a full stack or heap: their traces end there"),
     "unseen-releases": ("releases of locks that the thread wasn't seen to take: another thread, or nobody, was seen to hold them",
                         "releases of locks by a thread that did not take them", "releases of locks that were not seen to be taken"),
     "namespaces": ("libraries loaded by dlmopen into a namespace of their own: their locks aren't seen",),

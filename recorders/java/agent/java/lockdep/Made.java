@@ -62,11 +62,13 @@ final class Made {
 
     private static Made ofClass(Class<?> type, String suffix) {
         String name = nameOf(type);
-        return of(Site.fitting(name + suffix), Site.placeOfClass(name), "any object of");
+        String place = type.isArray() ? Site.placeOfArray(name) : Site.placeOfClass(name);
+        return of(Site.fitting(name + suffix), place, "any object of");
     }
 
     /** The name of a class, which is the same in each run even if the class is generated while the program runs. */
     private static String nameOf(Class<?> type) {
+        if (type.isArray()) return nameOf(type.getComponentType()) + "[]";
         String name = type.getName();
         int lambda = name.indexOf("$$Lambda");
         if (lambda >= 0) return name.substring(0, lambda + "$$Lambda".length());

@@ -24,6 +24,8 @@ public final class Recording {
 
     /** Whether recording has ended. */
     static volatile boolean isOver = true;
+    /** How many tasks an error has ended. (No method is called to count one, since the stack may be full.) */
+    static volatile int broken;
     static final Way.Common common = new Way.Common();
     static String[] sources = {};
 
@@ -41,6 +43,8 @@ public final class Recording {
         "interrupted", "alike", "unrewritten", "synchronizers", "unrewritten-methods"};
     private final long[] counts = new long[names.length];
     private final long[] told = new long[names.length];
+    /** How many tasks were left in the middle of a look, and not counted among those that an error has ended. */
+    private int left;
     private int taskCount;
     private int nextSwept;
     private boolean hasEnded;
@@ -168,12 +172,6 @@ public final class Recording {
             StringBuilder text = new StringBuilder();
             it.addLife(life, text);
             it.put(text.toString());
-        }
-    }
-
-    static void interrupted() {
-        synchronized (it) {
-            it.counts[6]++;
         }
     }
 
@@ -319,6 +317,7 @@ public final class Recording {
     }
 
     private void addCounts(StringBuilder lines) {
+        counts[6] = broken + left;
         for (int at = 0; at < names.length; at++) {
             if (counts[at] != told[at]) addCount(at, lines);
         }
@@ -351,7 +350,7 @@ public final class Recording {
     /** The thread of a task has ended. What several have already done in exactly this way isn't written again. */
     private void end(Task task) {
         Provoke.end(task.stand);
-        if (task.isOver) return;
+        if (task.isOver || isLeft(task)) return;
         task.end();
         count(task);
         if (task.number == 0 && task.size == 0) return;
@@ -402,9 +401,23 @@ public final class Recording {
 
     private boolean isAnyLookedAt(Task own) {
         for (Task task : tasks) {
-            if (task != own && !task.isOver && task.isLookedAt()) return true;
+            if (task != own && !task.isOver && task.isLookedAt() && !isOutside(task.thread.get())) return true;
         }
         return false;
+    }
+
+    /** Whether a thread isn't in the recorder, which waits for nothing but for monitors. */
+    private static boolean isOutside(Thread thread) {
+        if (thread == null || thread == Thread.currentThread()) return true;
+        Thread.State state = thread.getState();
+        return state == Thread.State.WAITING || state == Thread.State.TIMED_WAITING || state == Thread.State.TERMINATED;
+    }
+
+    /** Whether a task, whose thread isn't in the recorder, is still being examined: an error came where nothing could be done about it. */
+    private boolean isLeft(Task task) {
+        boolean isIt = task.isLookedAt();
+        if (isIt) left++;
+        return isIt;
     }
 
     private void endOrWrite(Task task) {
@@ -412,7 +425,7 @@ public final class Recording {
         boolean isRunning = thread != null && thread.isAlive();
         if (!isRunning) {
             end(task);
-        } else if (!task.isOver) {
+        } else if (!task.isOver && !(isOutside(thread) && isLeft(task))) {
             boolean waits = Blocked.waits(task, thread);
             if (task.size > 0) writeRecords(task);
             else count(task);

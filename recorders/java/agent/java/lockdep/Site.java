@@ -280,6 +280,14 @@ public final class Site {
         return source.place(0, visible(source.shortName()));
     }
 
+    /** The place of an array's type: that of the class of its elements. Numbers and the like have none, but a name. */
+    static String placeOfArray(String name) {
+        String element = name.substring(0, name.indexOf('['));
+        Source source = Source.of(element);
+        String shortName = source.shortName() + name.substring(element.length());
+        return element.indexOf('.') < 0 && Character.isLowerCase(element.charAt(0)) ? shortName : source.place(0, visible(shortName));
+    }
+
     /** A name without spaces and the like, as required for fields of the file. */
     private static String visible(String text) {
         StringBuilder kept = new StringBuilder();

@@ -134,12 +134,13 @@ final class Task {
 
     /**
      * Something went wrong while the task was being examined, for example because the stack is full: its trace ends
-     * here, and it stays busy.
+     * here, and it stays busy. If there may be no room for anything, nothing is called.
      */
     @Apart
     void abandon(Throwable error) {
         isOver = true;
-        Recording.interrupted();
+        Recording.broken++;
+        if (error instanceof VirtualMachineError) return;
         if (error.getClass().getName().equals("java.lang.ThreadDeath")) throw (Error) error; // by Thread.stop
     }
 
