@@ -14,7 +14,7 @@ from lockdep.cplusplus import Demangler
 from lockdep.elf import within_functions
 from lockdep.explanation import Line
 from lockdep.places import key_of_record, made_of, record_lines
-from lockdep.symbols import Address, Symbols, place_words, source_frame
+from lockdep.symbols import Address, Symbols, frame_of, place_words, source_frame
 from lockdep.terminal import Writer, broken, note_lines, width_of
 from lockdep.words import class_of_lock, stands_for_several, type_of_class, visible
 
@@ -109,6 +109,10 @@ class Stripped(unittest.TestCase):
                 symbols.ask()
                 functions = {name: symbols.frames(place)[0].function for name, place in places.items()}
                 self.assertEqual(functions, {"hidden": "" if is_stripped else "hidden", "shown": "shown"})
+
+    def test_a_unit_of_gcc_that_no_file_has_gives_no_line(self):
+        self.assertEqual(frame_of("made", "/src/<artificial>:24", "x+12").words, "made in x+12")
+        self.assertEqual(frame_of("made", "/src/../lib/x.c:24", "x+12").words, "made at x.c:24")
 
     def test_the_reader_is_asked_first_and_addr2line_about_the_rest(self):
         with tempfile.TemporaryDirectory() as room:

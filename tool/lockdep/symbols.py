@@ -18,6 +18,7 @@ from .words import CALLED_FROM, bytes_of, text_of
 PLACE = re.compile(r"(.*?):([0-9]{1,9})(?: (.*))?")
 SHOWN_FROM = "/./"
 WRAPPERS = ("std::", "__gthread", "__gnu_cxx::")
+NO_FILE = "<artificial>"  # of gcc's units with -flto, where addr2line takes the wrong file
 SYSTEM_HEADERS = ("/usr/include/", "/usr/lib/gcc")
 
 # The recorder's reader of debug information, if it is built.
@@ -64,7 +65,7 @@ def frame_of(function: str, place: str, address: str) -> Frame:
     """A frame from two lines of addr2line."""
     function, place = short_function(function), os.path.normpath(place)
     path, _, line = place.partition(" (discriminator")[0].rpartition(":")
-    is_known = line.isdigit() and int(line) > 0 and not path.startswith("?")
+    is_known = line.isdigit() and int(line) > 0 and not path.startswith("?") and os.path.basename(path) != NO_FILE
     function = "" if function.startswith("?") else function
     return Frame(function, os.path.normpath(path) if is_known else "", int(line) if is_known else 0, address,
                  is_wrapper(function, place))
