@@ -14,7 +14,7 @@ from lockdep.cplusplus import Demangler
 from lockdep.elf import within_functions
 from lockdep.explanation import Line
 from lockdep.places import key_of_record, made_of, record_lines
-from lockdep.symbols import Address, Symbols, place_words, source_frame
+from lockdep.symbols import Address, Symbols, frame_of, place_words, source_frame
 from lockdep.terminal import Writer, broken, note_lines, width_of
 from lockdep.words import class_of_lock, stands_for_several, type_of_class, visible
 
@@ -109,6 +109,34 @@ class Stripped(unittest.TestCase):
                 symbols.ask()
                 functions = {name: symbols.frames(place)[0].function for name, place in places.items()}
                 self.assertEqual(functions, {"hidden": "" if is_stripped else "hidden", "shown": "shown"})
+
+    def test_a_unit_of_gcc_that_no_file_has_gives_no_line(self):
+        self.assertEqual(frame_of("made", "/src/<artificial>:24", "x+12").words, "made in x+12")
+        self.assertEqual(frame_of("made", "/src/../lib/x.c:24", "x+12").words, "made at x.c:24")
+
+    def test_the_reader_is_asked_first_and_addr2line_about_the_rest(self):
+        with tempfile.TemporaryDirectory() as room:
+            source, program, reader = (os.path.join(room, name) for name in ("x.c", "x", "reader"))
+            with open(source, "w") as file:
+                file.write("static int table[] = {1};\nint shown(void) { return *table; }\nint main(void) { return shown(); }\n")
+            subprocess.run(["cc", "-g", "-O0", "-o", program, source], check=True)
+            said = subprocess.run(["nm", program], stdout=subprocess.PIPE, check=True).stdout.decode().split("\n")
+            at = {line.split()[2]: int(line.split()[0], 16) for line in said if len(line.split()) == 3}
+            with open(reader, "w") as file:
+                file.write("#!/bin/sh\n[ $1 = --code ] || { echo /src/pool.h:3; exit; }\n"
+                           "printf '0x%016x\\n_ZN4Pool4lockEv\\n/src/pool.h:7\\nuse\\n/src/use.c:9\\n' ")
+                file.write("%d\nprintf '0x%%016x\\n??\\n??:0\\n' %d\n" % (at["main"], at["shown"]))
+            os.chmod(reader, 0o755)
+            places = {"main": Address(program, at["main"] + 1), "shown": Address(program, at["shown"] + 1),
+                      "table": Address(program, at["table"], is_code=False)}
+            expected = {reader: ["Pool::lock() at pool.h:7 < use at use.c:9", "shown at x.c:2", "pool.h:3"],
+                        "": ["main at x.c:3", "shown at x.c:2", "x.c:1"], reader + ".missing": ["main at x.c:3", "shown at x.c:2", "x.c:1"]}
+            for asked, words in expected.items():
+                symbols = Symbols(reader=asked)
+                for place in places.values():
+                    symbols.want(place)
+                symbols.ask()
+                self.assertEqual([place_words(symbols.frames(place)) for place in places.values()], words)
 
     def test_a_file_of_another_kind_has_no_functions(self):
         self.assertEqual(within_functions(__file__, [1]), set())

@@ -91,6 +91,12 @@ def by_binutils(symbols: list[str]) -> dict[str, str]:
     return {symbol: line for symbol, line in zip(symbols, lines) if line} if len(lines) == len(symbols) + 1 else {}
 
 
+def demangled(symbols: list[str]) -> dict[str, str]:
+    """Whole symbols that begin with _Z, demangled as far as that is possible."""
+    found = by_library(symbols) if symbols else {}
+    return by_binutils(symbols) if found is None else found
+
+
 class Demangler:
     """Texts in which each symbol that begins with _Z is demangled. One with a cut-off end isn't a symbol and stays."""
 

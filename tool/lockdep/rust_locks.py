@@ -160,7 +160,7 @@ class Takers:
 
     def places(self, ends: list[int]) -> list[list[Frame]]:
         """The functions of instructions, by where these end."""
-        addresses, symbols = [Address(self.program, end) for end in ends], Symbols()
+        addresses, symbols = [Address(self.program, end) for end in ends], Symbols(reader="")
         for address in addresses:
             symbols.want(address)
         symbols.ask(PATIENCE)

@@ -1,13 +1,15 @@
-"""Where addresses are in the source: one addr2line for each module, after all addresses were gathered. What that doesn't know of variables, as
-those in split files and most of clang's, the recorder's reader of debug information says."""
+"""Where addresses are in the source: for each module the recorder's reader of debug information is asked, after all addresses were gathered, and
+addr2line about what that doesn't know. The reader comes first, since addr2line reads some of the debug information of gcc and clang in a wrong way,
+and no split files."""
 from __future__ import annotations
 
 import os
 import re
 from dataclasses import dataclass
+from typing import Iterable
 
 from .checker import PATIENCE, other_answer
-from .cplusplus import short_function
+from .cplusplus import demangled, short_function
 from .files import is_file
 from .words import CALLED_FROM, bytes_of, text_of
 
@@ -16,6 +18,7 @@ from .words import CALLED_FROM, bytes_of, text_of
 PLACE = re.compile(r"(.*?):([0-9]{1,9})(?: (.*))?")
 SHOWN_FROM = "/./"
 WRAPPERS = ("std::", "__gthread", "__gnu_cxx::")
+NO_FILE = "<artificial>"  # of gcc's units with -flto, where addr2line takes the wrong file
 SYSTEM_HEADERS = ("/usr/include/", "/usr/lib/gcc")
 
 # The recorder's reader of debug information, if it is built.
@@ -60,9 +63,9 @@ def is_wrapper(function: str, place: str) -> bool:
 
 def frame_of(function: str, place: str, address: str) -> Frame:
     """A frame from two lines of addr2line."""
-    function = short_function(function)
+    function, place = short_function(function), os.path.normpath(place)
     path, _, line = place.partition(" (discriminator")[0].rpartition(":")
-    is_known = line.isdigit() and int(line) > 0 and not path.startswith("?")
+    is_known = line.isdigit() and int(line) > 0 and not path.startswith("?") and os.path.basename(path) != NO_FILE
     function = "" if function.startswith("?") else function
     return Frame(function, os.path.normpath(path) if is_known else "", int(line) if is_known else 0, address,
                  is_wrapper(function, place))
@@ -94,10 +97,16 @@ class Address:
         return max(0, (self.offset or 0) - self.is_code)
 
 
-class Symbols:
-    """What addr2line says about addresses, once they were all gathered."""
+def listed(addresses: Iterable[int]) -> bytes:
+    """Addresses as they are asked for."""
+    return "".join("0x%x\n" % address for address in addresses).encode()
 
-    def __init__(self) -> None:
+
+class Symbols:
+    """What is said about addresses, once they were all gathered. Without a reader only addr2line is asked."""
+
+    def __init__(self, reader: str = READER) -> None:
+        self.reader = reader
         self.wanted: dict[str, dict[int, str]] = {}
         self.data: dict[str, set[int]] = {}
         self.known: dict[Address, list[Frame]] = {}
@@ -114,23 +123,40 @@ class Symbols:
                 self.data.setdefault(place.module, set()).add(place.looked_up)
 
     def ask(self, patience: int = PATIENCE) -> None:
+        is_there = has_addr2line()
         for module, addresses in self.wanted.items():
-            said = None
-            if is_file(module):
-                words = ["addr2line", "-a", "-i", "-f", "-C", b"--exe=" + bytes_of(module)]
-                said = other_answer(words, "".join("0x%x\n" % address for address in addresses).encode(), patience)
-            self.take(module, addresses, text_of(said or b"").split("\n"))
-            self.ask_reader(module, addresses, patience)
-            self.drop_nearest(module, addresses)
+            if is_there and is_file(module) and self.reader:
+                self.ask_reader_of_code(module, addresses, patience)
+                self.ask_reader_of_data(module, addresses, patience)
+            self.ask_binutils(module, {address: shown for address, shown in addresses.items() if (module, address) not in self.answers}, patience)
 
-    def ask_reader(self, module: str, addresses: dict[int, str], patience: int) -> None:
-        """Asks about variables whose lines addr2line doesn't know."""
-        unknown = [address for address in sorted(self.data.get(module, ())) if not any(frame.path for frame in self.answers[module, address])]
-        if not unknown or not is_file(module):
+    def ask_binutils(self, module: str, addresses: dict[int, str], patience: int) -> None:
+        said = None
+        if addresses and is_file(module):
+            words = ["addr2line", "-a", "-i", "-f", "-C", b"--exe=" + bytes_of(module)]
+            said = other_answer(words, listed(addresses), patience)
+        self.take(module, addresses, text_of(said or b"").split("\n"))
+        self.drop_nearest(module, addresses)
+
+    def ask_reader_of_code(self, module: str, addresses: dict[int, str], patience: int) -> None:
+        """Asks where code is. What the reader doesn't know has no answer."""
+        code = {address: shown for address, shown in addresses.items() if address not in self.data.get(module, ())}
+        if not code:
             return
-        given = "".join("0x%x\n" % address for address in unknown).encode()
-        lines = text_of(other_answer([READER, "--lines", bytes_of(module)], given, patience) or b"").split("\n")
-        for address, line in zip(unknown, lines):
+        lines = text_of(other_answer([self.reader, "--code", bytes_of(module)], listed(code), patience) or b"").split("\n")
+        names = demangled([line for line in lines if line.startswith("_Z")])
+        self.take(module, code, [names.get(line, line) for line in lines])
+        for address in code:
+            if not self.answers[module, address][0].function:
+                del self.answers[module, address]
+
+    def ask_reader_of_data(self, module: str, addresses: dict[int, str], patience: int) -> None:
+        """Asks where variables are declared."""
+        data = sorted(self.data.get(module, ()))
+        if not data:
+            return
+        lines = text_of(other_answer([self.reader, "--lines", bytes_of(module)], listed(data), patience) or b"").split("\n")
+        for address, line in zip(data, lines):
             frame = frame_of("", line, addresses[address])
             if frame.path:
                 self.answers[module, address] = [frame]

@@ -53,7 +53,7 @@ static void tidy(char *path) {
 }
 
 /* From the root, where the unit was compiled. */
-static const char *absolute(Dwarf_Die *unit, const char *name) {
+const char *absolute_path(Dwarf_Die *unit, const char *name) {
     Dwarf_Attribute a;
     const char *folder = dwarf_attr(unit, DW_AT_comp_dir, &a) ? dwarf_formstring(&a) : NULL;
     char *path = name[0] == '/' || !folder ? written("%s", name) : written("%s/%s", folder, name);
@@ -74,7 +74,7 @@ void read_sources(struct module *m) {
         Dwarf_Die *told = whole_unit(&unit, kind, &part);
         const char *name = name_of(told);
         if (name)
-            PUSH(m->sources, m->source_count, absolute(dwarf_hasattr(told, DW_AT_comp_dir) ? told : &unit, name));
+            PUSH(m->sources, m->source_count, absolute_path(dwarf_hasattr(told, DW_AT_comp_dir) ? told : &unit, name));
     }
 }
 
@@ -89,7 +89,7 @@ void add_source(struct module *m, const char *path) {
 const char *path_of(Dwarf_Die *die) {
     Dwarf_Die unit;
     const char *path = file_of(die, &unit);
-    return path ? absolute(&unit, path) : NULL;
+    return path ? absolute_path(&unit, path) : NULL;
 }
 
 const char *header_of(Dwarf_Die *die) {
@@ -101,7 +101,7 @@ const char *header_of(Dwarf_Die *die) {
 #define AFTER_PATH '\x1f'
 
 static const char *with_path(Dwarf_Die *unit, const char *file) {
-    const char *path = absolute(unit, file);
+    const char *path = absolute_path(unit, file);
     return written("%s%c%s:", path, AFTER_PATH, base_of(path));
 }
 

@@ -12,6 +12,11 @@
 
    For each address on standard input, of a static variable of the module, it writes `PATH:LINE`, or `??:0`.
 
+     names --code MODULE
+
+   For each address on standard input, of code in C or C++, it writes the address, and two lines for each function, inlined ones first:
+   the symbol's name, and `PATH:LINE`, or `PATH:?` or `??:?` as far as that isn't known. Of other code it writes `??` and `??:0`.
+
    Names are found once, right after the program has ended, as long as its files are still those that ran. Debug information may be
    damaged, so it is read by a process of its own: what that ends with has no names. */
 #include "names.h"
@@ -198,13 +203,13 @@ int main(int argc, char **argv) {
     struct dirent **entries;
     char **arenas = NULL;
     size_t count = 0;
-    if (argc == 3 && strcmp(argv[1], "--lines") == 0) {
+    if (argc == 3 && (strcmp(argv[1], "--lines") == 0 || strcmp(argv[1], "--code") == 0)) {
         limit_process();
-        tell_lines(argv[2]);
+        (strcmp(argv[1], "--lines") == 0 ? tell_lines : tell_code_lines)(argv[2]);
         return 0;
     }
     if (argc != 2) {
-        fputs("usage: names FOLDER, or names --lines MODULE\n", stderr);
+        fputs("usage: names FOLDER, names --lines MODULE, or names --code MODULE\n", stderr);
         return 2;
     }
     const char *raw = written("%s/raw", argv[1]);

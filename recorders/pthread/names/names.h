@@ -44,6 +44,7 @@ struct function {
 };
 struct unit_functions {
     void *unit;
+    bool has_nested; /* also those that stand in another function's entry, as gcc writes lambdas */
     struct function *list;
     size_t count;
 };
@@ -125,6 +126,7 @@ const char *name_of_nameless(Dwarf_Die *function); /* of one without a name, wit
 
 const char *file_mark(Dwarf_Die *die, const char *qualified_name); /* `store.cpp:` after its path, where another file may use the name too, else empty */
 const char *after_path(const char *text); /* the text without that path */
+const char *absolute_path(Dwarf_Die *unit, const char *name); /* of a file that a unit names */
 const char *path_of(Dwarf_Die *die); /* of the file that declares it; NULL if that isn't known */
 const char *header_of(Dwarf_Die *die); /* the path of the header that declares it; NULL if that is no header */
 void read_sources(struct module *m);
@@ -176,6 +178,7 @@ bool address_of_variable(Dwarf_Die *die, uint64_t *at); /* of a static one */
 #define SCOPES 40
 bool function_at(struct module *m, uint64_t address, Dwarf_Die *function);
 int scopes_at(struct module *m, uint64_t address, Dwarf_Die *scopes); /* from the innermost one to the function */
+int nested_scopes_at(struct module *m, uint64_t address, Dwarf_Die *scopes); /* the function may stand in another one's entry */
 const char *function_name(Dwarf_Die *scopes, int count, int from);
 bool is_merged(struct module *m, uint64_t address); /* its code is that of several functions, so its types may be another one's */
 bool line_at(struct module *m, uint64_t address, int *line, int *column);
@@ -254,6 +257,7 @@ struct found {
 };
 
 void tell_lines(const char *module); /* where the static variables are declared whose addresses are on standard input */
+void tell_code_lines(const char *module); /* where the code is whose addresses are on standard input */
 
 /* variables.c: by what is in the module or in a frame, wherever it was met. */
 bool static_variable(struct module *m, uint64_t at, struct found *found);

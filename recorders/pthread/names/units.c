@@ -64,23 +64,27 @@ static void add_function(struct unit_functions *to, Dwarf_Die *die) {
     }
 }
 
+static bool is_scope_of_functions(int tag) { return tag == DW_TAG_subprogram || tag == DW_TAG_lexical_block || is_class(tag); }
+
 static void collect_functions(struct unit_functions *to, Dwarf_Die *die, int depth) {
+    bool is_nested = to->has_nested;
     Dwarf_Die child;
     if (depth > DEEPEST_NAMESPACE || dwarf_child(die, &child) != 0)
         return;
     do {
-        if (dwarf_tag(&child) == DW_TAG_subprogram)
+        int tag = dwarf_tag(&child);
+        if (tag == DW_TAG_subprogram)
             add_function(to, &child);
-        else if (dwarf_tag(&child) == DW_TAG_namespace)
+        if (tag == DW_TAG_namespace || (is_nested && is_scope_of_functions(tag)))
             collect_functions(to, &child, depth + 1);
     } while (dwarf_siblingof(&child, &child) == 0);
 }
 
-static const struct unit_functions *functions_of(struct module *m, Dwarf_Die *unit) {
+static const struct unit_functions *functions_of(struct module *m, Dwarf_Die *unit, bool has_nested) {
     for (size_t i = 0; i < m->unit_count; i++)
-        if (m->units[i].unit == unit->addr)
+        if (m->units[i].unit == unit->addr && m->units[i].has_nested == has_nested)
             return &m->units[i];
-    struct unit_functions new = {unit->addr, NULL, 0};
+    struct unit_functions new = {unit->addr, has_nested, NULL, 0};
     collect_functions(&new, unit, 0);
     PUSH(m->units, m->unit_count, new);
     return &m->units[m->unit_count - 1];
@@ -95,17 +99,19 @@ static bool function_in(const struct unit_functions *unit, uint64_t address, Dwa
     return false;
 }
 
-bool function_at(struct module *m, uint64_t address, Dwarf_Die *function) {
+static bool function_of_units(struct module *m, uint64_t address, bool has_nested, Dwarf_Die *function) {
     if (!m || !has_debug(m))
         return false;
     if (!m->has_ranges)
         read_ranges(m);
     size_t last = ranges_before(m, address);
     for (size_t i = last; i-- > 0 && last - i <= MOST_NESTED;)
-        if (address < m->ranges[i].to && function_in(functions_of(m, &m->ranges[i].unit), address, function))
+        if (address < m->ranges[i].to && function_in(functions_of(m, &m->ranges[i].unit, has_nested), address, function))
             return true;
     return false;
 }
+
+bool function_at(struct module *m, uint64_t address, Dwarf_Die *function) { return function_of_units(m, address, false, function); }
 
 /* ---- What is inlined. */
 
@@ -123,14 +129,21 @@ static bool scope_within(Dwarf_Die *outer, uint64_t address, Dwarf_Die *inner) {
     return false;
 }
 
-int scopes_at(struct module *m, uint64_t address, Dwarf_Die *scopes) {
+/* The function is the last of the scopes. */
+static int scopes_of_function(uint64_t address, Dwarf_Die *scopes) {
     int count = 1;
-    if (!function_at(m, address, &scopes[SCOPES - 1]))
-        return 0;
     while (count < SCOPES && scope_within(&scopes[SCOPES - count], address, &scopes[SCOPES - count - 1]))
         count++;
     memmove(scopes, &scopes[SCOPES - count], (size_t)count * sizeof *scopes);
     return count;
+}
+
+int scopes_at(struct module *m, uint64_t address, Dwarf_Die *scopes) {
+    return function_at(m, address, &scopes[SCOPES - 1]) ? scopes_of_function(address, scopes) : 0;
+}
+
+int nested_scopes_at(struct module *m, uint64_t address, Dwarf_Die *scopes) {
+    return function_of_units(m, address, true, &scopes[SCOPES - 1]) ? scopes_of_function(address, scopes) : 0;
 }
 
 const char *function_name(Dwarf_Die *scopes, int count, int from) {
