@@ -133,11 +133,16 @@ int scopes_at(struct module *m, uint64_t address, Dwarf_Die *scopes) {
     return count;
 }
 
-const char *function_name(Dwarf_Die *scopes, int count, int from) {
+Dwarf_Die *function_around(Dwarf_Die *scopes, int count, int from) {
     for (int i = from; i < count; i++)
         if (dwarf_tag(&scopes[i]) != DW_TAG_lexical_block)
-            return qualified(&scopes[i]);
-    return "?";
+            return &scopes[i];
+    return NULL;
+}
+
+const char *function_name(Dwarf_Die *scopes, int count, int from) {
+    Dwarf_Die *function = function_around(scopes, count, from);
+    return function ? qualified(function) : "?";
 }
 
 bool line_at(struct module *m, uint64_t address, int *line, int *column) {
