@@ -40,6 +40,7 @@ struct symbol {
     uint64_t value, size; /* of SYMBOL_THREAD the value is an offset in the module's thread-local part */
     const char *name;
     enum symbol_kind kind;
+    enum { NOT_KNOWN, IS_SO, IS_NOT_SO } overloaded; /* as far as names.c has looked */
 };
 
 struct module {

@@ -94,27 +94,79 @@ static void cut_to_lambda(char *name) {
     memmove(name, from, strlen(from) + 1);
 }
 
-/* A symbol's name without parameters, with the spaces that C++ has in it. */
-static void read_symbol(char *text, size_t room, const char *symbol) {
+/* A symbol's name without parameters, with the spaces that C++ has in it, and what was cut off. */
+struct called {
+    char name[LONGEST_NAME], parameters[LONGEST_NAME];
+};
+
+static char *demangled(const char *symbol) {
     static demangler *demangle;
     static bool is_looked_for;
     if (!is_looked_for)
         demangle = find_demangler();
     is_looked_for = true;
-    char *plain = demangle && strncmp(symbol, "_Z", 2) == 0 ? demangle(symbol, NULL, NULL, NULL) : NULL;
-    snprintf(text, room, "%s", plain ? plain : symbol);
+    return demangle && strncmp(symbol, "_Z", 2) == 0 ? demangle(symbol, NULL, NULL, NULL) : NULL;
+}
+
+static void read_symbol(struct called *called, const char *symbol) {
+    char *plain = demangled(symbol), *clone = plain ? strstr(plain, " [clone ") : NULL;
+    if (clone)
+        *clone = 0;
+    snprintf(called->name, sizeof called->name, "%s", plain ? plain : symbol);
+    called->parameters[0] = 0;
     if (plain) {
-        replace(text, "(anonymous namespace)", "{anonymous}");
-        cut_parameters(text);
-        cut_type(text);
+        replace(called->name, "(anonymous namespace)", "{anonymous}");
+        snprintf(called->parameters, sizeof called->parameters, "%s", called->name);
+        cut_parameters(called->name);
+        size_t length = strlen(called->name);
+        memmove(called->parameters, called->parameters + length, strlen(called->parameters + length) + 1);
+        cut_type(called->name);
     }
     free(plain);
 }
 
 /* A symbol's name as one reads it, without parameters. */
 void tell_symbol(char *text, size_t room, const char *symbol) {
-    read_symbol(text, room, symbol);
+    struct called called;
+    read_symbol(&called, symbol);
+    snprintf(text, room, "%s", called.name);
     fill_spaces(text);
+}
+
+/* ---- Overloaded functions: those that have the name of another one of the module but for the parameters. */
+
+/* The last part of a name, as each symbol of that name has it. Empty of an operator. */
+static void find_last_part(char *part, size_t room, const char *name) {
+    size_t length = strcspn(name, "<"), from = length;
+    while (from > 0 && name[from - 1] != ':')
+        from--;
+    bool is_operator = strncmp(name + from, "operator", 8) == 0;
+    snprintf(part, room, "%.*s", is_operator || name[length] ? 0 : (int)(length - from), name + from);
+}
+
+static bool has_overload(const struct module *m, const struct called *called) {
+    static struct called other;
+    char part[LONGEST_NAME];
+    find_last_part(part, sizeof part, called->name);
+    for (size_t i = 0; i < m->symbol_count; i++) {
+        const struct symbol *s = &m->symbols[i];
+        if (s->kind != SYMBOL_CODE || strncmp(s->name, "_Z", 2) != 0 || !strstr(s->name, part))
+            continue;
+        read_symbol(&other, s->name);
+        if (strcmp(other.name, called->name) == 0 && strcmp(other.parameters, called->parameters) != 0)
+            return true;
+    }
+    return false;
+}
+
+/* All of the module's symbols are looked at, so this doesn't depend on what was recorded. */
+static bool is_overloaded(const struct module *m, const struct symbol *s, const struct called *called) {
+    struct symbol *own = &m->symbols[s - m->symbols];
+    if (!called->parameters[0])
+        return false;
+    if (own->overloaded == NOT_KNOWN)
+        own->overloaded = has_overload(m, called) ? IS_SO : IS_NOT_SO;
+    return own->overloaded == IS_SO;
 }
 
 /* ---- Wrappers: functions that are passed over when a place is named. */
@@ -267,6 +319,17 @@ bool is_in_fork(uint64_t word) {
 
 /* ---- A class in words. */
 
+/* A function itself has its parameters if it is overloaded. Of a call in it the offset mostly tells that. */
+static void tell_function(char *text, size_t room, const struct module *m, const struct symbol *s, bool is_call) {
+    struct called called;
+    read_symbol(&called, s->name);
+    bool is_told = !is_call && s->kind == SYMBOL_CODE && is_overloaded(m, s, &called);
+    cut_to_lambda(called.name);
+    size_t have = (size_t)snprintf(text, room, "%s", called.name);
+    if (is_told && have < room)
+        snprintf(text + have, room - have, "%s", called.parameters);
+}
+
 /* `function+0x1c`, `object`, or `module+1c` if the module has no symbol there. A call's address is the one after it. */
 static void tell_address(char *text, size_t room, uint64_t word, bool is_call, enum symbol_kind kind, bool plainly) {
     if (word == UINT64_MAX) {
@@ -276,10 +339,9 @@ static void tell_address(char *text, size_t room, uint64_t word, bool is_call, e
     uint64_t offset = raw_word_offset(word);
     const struct symbol *s = plainly ? NULL : symbol_at(raw_word_module(word), offset - is_call, kind);
     char name[LONGEST_NAME];
-    if (s) {
-        read_symbol(name, sizeof name, s->name);
-        cut_to_lambda(name);
-    } else
+    if (s)
+        tell_function(name, sizeof name, &modules[raw_word_module(word)], s, is_call);
+    else
         snprintf(name, sizeof name, "%s", modules[raw_word_module(word)].base);
     fill_spaces(name);
     if (!s)

@@ -68,7 +68,7 @@ static void add_symbols(struct module *m, const struct file *file, const Elf64_S
             m->takes_locks |= takes_lock(name);
         else if ((is_code || type == STT_OBJECT || type == STT_TLS) && is_plain(name)) {
             enum symbol_kind kind = is_code ? SYMBOL_CODE : type == STT_TLS ? SYMBOL_THREAD : SYMBOL_DATA;
-            struct symbol s = {symbols[i].st_value, symbols[i].st_size, name, kind};
+            struct symbol s = {symbols[i].st_value, symbols[i].st_size, name, kind, NOT_KNOWN};
             PUSH(m->symbols, m->symbol_count, s);
         }
     }

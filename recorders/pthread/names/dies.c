@@ -154,30 +154,34 @@ const char *class_name(Dwarf_Die *type) {
     return name ? name : typedefs[typedef_slot(type->addr)].name;
 }
 
-/* ---- Names with scopes. Inline namespaces and blocks are left out. */
+/* ---- Names with scopes. Inline namespaces and blocks are left out. A namespace without a name is marked as an inline one, too. */
 
 static bool is_left_out(Dwarf_Die *die) {
     int tag = dwarf_tag(die);
-    return tag == DW_TAG_lexical_block || (tag == DW_TAG_namespace && flag_of(die, DW_AT_export_symbols));
+    return tag == DW_TAG_lexical_block || (tag == DW_TAG_namespace && name_of(die) && flag_of(die, DW_AT_export_symbols));
 }
 
-static const char *own_name(Dwarf_Die *die) {
+const char *own_name(Dwarf_Die *die) {
     const char *name = class_name(die);
     if (!name)
         return dwarf_tag(die) == DW_TAG_namespace ? "{anonymous}" : "{unnamed}";
     return strncmp(name, "<lambda", 7) == 0 || strncmp(name, "._anon", 6) == 0 ? "{lambda}" : name;
 }
 
-static const char *put_together(Dwarf_Die *die) {
-    Dwarf_Die declared = declaration_of(*die), scope = declared, next;
+bool named_scope(Dwarf_Die declared, Dwarf_Die *scope) {
     bool has_scope = false;
+    while ((has_scope = parent_of(&declared, scope)) && is_left_out(scope))
+        declared = *scope;
+    return has_scope && is_scope(dwarf_tag(scope));
+}
+
+static const char *put_together(Dwarf_Die *die) {
+    Dwarf_Die declared = declaration_of(*die), scope;
     if (dwarf_tag(&declared) == DW_TAG_subprogram && !name_of(&declared))
         return name_of_nameless(&declared);
-    while ((has_scope = parent_of(&scope, &next)) && is_left_out(&next))
-        scope = next;
-    if (!has_scope || !is_scope(dwarf_tag(&next)))
+    if (!named_scope(declared, &scope))
         return own_name(&declared);
-    return written("%s::%s", qualified(&next), own_name(&declared));
+    return written("%s::%s", qualified(&scope), own_name(&declared));
 }
 
 #define KEPT_NAMES 65536

@@ -121,15 +121,20 @@ static bool is_of_unit(Dwarf_Die *variable, const char *qualified_name) {
     return !is_shared || strstr(qualified_name, ANONYMOUS);
 }
 
-/* A type of a header is the same in all files, unless another header has one of that name in C. A static variable never is. One with
-   internal linkage has its unit's source for a file, since a header gives one to each. */
+const char *source_mark(Dwarf_Die *die) {
+    Dwarf_Die unit;
+    return dwarf_diecu(die, &unit, NULL, NULL) && name_of(&unit) ? with_path(&unit, name_of(&unit)) : "";
+}
+
+/* A type of a header is the same in all files, unless another header has one of that name in C, or it is in an anonymous namespace. A static
+   variable never is. What has internal linkage has its unit's source for a file, since a header gives one to each. */
 const char *file_mark(Dwarf_Die *die, const char *qualified_name) {
     Dwarf_Die unit;
     const char *path = file_of(die, &unit);
-    bool is_variable = dwarf_tag(die) == DW_TAG_variable;
-    if (path && is_variable && is_of_unit(die, qualified_name) && name_of(&unit))
+    bool is_variable = dwarf_tag(die) == DW_TAG_variable, is_anonymous = strstr(qualified_name, ANONYMOUS);
+    if (path && (is_variable ? is_of_unit(die, qualified_name) : is_anonymous && !is_source(path)) && name_of(&unit))
         path = name_of(&unit);
-    bool is_local = path && (is_source(path) || is_variable || strstr(qualified_name, ANONYMOUS) || is_one_of_several(die));
+    bool is_local = path && (is_source(path) || is_variable || is_anonymous || is_one_of_several(die));
     return is_local ? with_path(&unit, path) : "";
 }
 

@@ -95,6 +95,13 @@ static void index_typedef(struct module *m, Dwarf_Die *die) {
     PUSH(m->typedefs, m->typedef_count, type);
 }
 
+/* What is only a copy of another entry isn't noted. */
+static void index_function(struct module *m, Dwarf_Die *die) {
+    struct indexed_type function = {name_of(die), 0, *die};
+    if (function.name && !dwarf_hasattr(die, DW_AT_abstract_origin))
+        PUSH(m->functions, m->function_count, function);
+}
+
 static void index_below(struct module *m, Dwarf_Die *die, int depth) {
     Dwarf_Die child;
     if (depth > DEEPEST || dwarf_child(die, &child) != 0)
@@ -105,6 +112,8 @@ static void index_below(struct module *m, Dwarf_Die *die, int depth) {
             index_variable(m, &child);
         if (is_class(tag))
             index_type(m, &child, is_class(dwarf_tag(die)));
+        if (tag == DW_TAG_subprogram)
+            index_function(m, &child);
         if (tag == DW_TAG_typedef && depth == 0)
             index_typedef(m, &child);
         if (is_class(tag) || tag == DW_TAG_namespace || tag == DW_TAG_lexical_block ||
@@ -145,6 +154,7 @@ void index_module(struct module *m) {
     sort(m->thread_variables, m->thread_variable_count, sizeof *m->thread_variables, by_address);
     sort(m->types, m->type_count, sizeof *m->types, by_name);
     sort(m->typedefs, m->typedef_count, sizeof *m->typedefs, by_name);
+    sort(m->functions, m->function_count, sizeof *m->functions, by_name);
 }
 
 size_t first_named(const struct indexed_type *types, size_t count, const char *name) {

@@ -51,6 +51,48 @@ static const char *function_of_symbol(const char *symbol, const char *variable) 
     return is_it ? written("%.*s", (int)length, symbol) : NULL;
 }
 
+/* The function's parameters in a static variable's symbol in plain words, as `(int)` in `space::of(int)::m`. */
+static const char *parameters_in(const char *plain) {
+    const char *end = strrchr(plain, ')'), *from = end;
+    int depth = 0;
+    for (; from && from >= plain; from--) {
+        depth += *from == ')' ? 1 : *from == '(' ? -1 : 0;
+        if (depth == 0)
+            break;
+    }
+    bool is_const = end && strncmp(end, ") const::", 9) == 0;
+    return from && from >= plain ? written("%.*s%s", (int)(end + 1 - from), from, is_const ? " const" : "") : "";
+}
+
+const char *parameters_of_nameless(Dwarf_Die *function) {
+    struct module *m = module_of_die(function);
+    const char *symbol, *plain;
+    uint64_t at;
+    Dwarf_Die child;
+    for (int end = dwarf_child(function, &child); m && end == 0; end = dwarf_siblingof(&child, &child))
+        if (dwarf_tag(&child) == DW_TAG_variable && address_of_variable(&child, &at) && (symbol = symbol_of(m, at)))
+            return (plain = demangled(symbol)) ? parameters_in(plain) : written("{%s}", symbol);
+    return "";
+}
+
+static bool is_other_overload(const char *symbol, const char *name, const char *parameters) {
+    const char *function = strncmp(symbol, "_ZZ", 3) == 0 ? function_of_cpp(symbol + 3) : NULL;
+    const char *plain = function && strcmp(function, name) == 0 ? demangled(symbol) : NULL;
+    return plain && strcmp(parameters_in(plain), parameters) != 0;
+}
+
+/* Functions that are inlined everywhere may be left in nothing but such symbols. */
+bool has_overload_in_symbols(struct module *m, const char *name, const char *parameters) {
+    int count = m ? dwfl_module_getsymtab(m->file) : 0;
+    for (int i = 0; i < count; i++) {
+        GElf_Sym symbol;
+        const char *text = dwfl_module_getsym(m->file, i, &symbol, NULL);
+        if (text && is_other_overload(text, name, parameters))
+            return true;
+    }
+    return false;
+}
+
 static const char *by_symbol(Dwarf_Die *function) {
     const char *name = NULL, *symbol;
     uint64_t at;

@@ -78,7 +78,8 @@ struct module {
     struct variable *variables, *thread_variables;
     size_t variable_count, thread_variable_count;
     struct indexed_type *types, *typedefs; /* the second of classes that have no other name */
-    size_t type_count, typedef_count;
+    struct indexed_type *functions; /* those that are declared in a class, too */
+    size_t type_count, typedef_count, function_count;
     struct symbol *symbols;
     size_t symbol_count;
     const char **sources; /* the source files of its units, and headers that have types of one name */
@@ -115,16 +116,29 @@ bool is_pointer(int tag);
 bool parent_of(Dwarf_Die *die, Dwarf_Die *parent);
 Dwarf_Die declaration_of(Dwarf_Die die);
 bool template_argument(Dwarf_Die *die, Dwarf_Die *type);
+const char *own_name(Dwarf_Die *die);
+bool named_scope(Dwarf_Die declared, Dwarf_Die *scope); /* what it is in, if that has a name of its own in names */
 const char *qualified(Dwarf_Die *die); /* the name with its scopes */
 bool is_of_library(const char *qualified_name);
+
+/* ---- apart.c */
+
+const char *demangled(const char *symbol); /* NULL if it can't be */
+
+const char *told(Dwarf_Die *die);            /* as qualified, with what tells apart those of one name */
+const char *told_variable(Dwarf_Die *variable); /* of a function, without that */
+const char *told_function(Dwarf_Die *function); /* and with its file's mark, if another file of the module has one of its own of that name */
 
 /* ---- nameless.c */
 
 const char *name_of_nameless(Dwarf_Die *function); /* of one without a name, with its scopes */
+bool has_overload_in_symbols(struct module *m, const char *name, const char *parameters);
+const char *parameters_of_nameless(Dwarf_Die *function); /* if a static variable tells them, else empty */
 
 /* ---- files.c */
 
 const char *file_mark(Dwarf_Die *die, const char *qualified_name); /* `store.cpp:` after its path, where another file may use the name too, else empty */
+const char *source_mark(Dwarf_Die *die); /* that of the source file in whose unit it is; empty if that isn't known */
 const char *after_path(const char *text); /* the text without that path */
 const char *absolute_path(Dwarf_Die *unit, const char *name); /* of a file that a unit names */
 const char *path_of(Dwarf_Die *die); /* of the file that declares it; NULL if that isn't known */
@@ -179,6 +193,7 @@ bool address_of_variable(Dwarf_Die *die, uint64_t *at); /* of a static one */
 bool function_at(struct module *m, uint64_t address, Dwarf_Die *function);
 int scopes_at(struct module *m, uint64_t address, Dwarf_Die *scopes); /* from the innermost one to the function */
 int nested_scopes_at(struct module *m, uint64_t address, Dwarf_Die *scopes); /* the function may stand in another one's entry */
+Dwarf_Die *function_around(Dwarf_Die *scopes, int count, int from); /* NULL if there is none */
 const char *function_name(Dwarf_Die *scopes, int count, int from);
 bool is_merged(struct module *m, uint64_t address); /* its code is that of several functions, so its types may be another one's */
 bool line_at(struct module *m, uint64_t address, int *line, int *column);

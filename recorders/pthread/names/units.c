@@ -146,11 +146,16 @@ int nested_scopes_at(struct module *m, uint64_t address, Dwarf_Die *scopes) {
     return function_of_units(m, address, true, &scopes[SCOPES - 1]) ? scopes_of_function(address, scopes) : 0;
 }
 
-const char *function_name(Dwarf_Die *scopes, int count, int from) {
+Dwarf_Die *function_around(Dwarf_Die *scopes, int count, int from) {
     for (int i = from; i < count; i++)
         if (dwarf_tag(&scopes[i]) != DW_TAG_lexical_block)
-            return qualified(&scopes[i]);
-    return "?";
+            return &scopes[i];
+    return NULL;
+}
+
+const char *function_name(Dwarf_Die *scopes, int count, int from) {
+    Dwarf_Die *function = function_around(scopes, count, from);
+    return function ? qualified(function) : "?";
 }
 
 bool line_at(struct module *m, uint64_t address, int *line, int *column) {

@@ -26,8 +26,7 @@ static bool is_array(Dwarf_Die type) {
 }
 
 static const char *text_of_variable(Dwarf_Die *die, Dwarf_Die type, const char *member) {
-    const char *name = qualified(die);
-    return written("%s%s%s%s", file_mark(die, name), without_anonymous(name), is_array(type) ? "[]" : "", member ? member : "");
+    return written("%s%s%s%s", file_mark(die, qualified(die)), without_anonymous(told(die)), is_array(type) ? "[]" : "", member ? member : "");
 }
 
 static bool variable_at(const struct variable *list, size_t count, uint64_t at, struct found *found) {
@@ -83,8 +82,7 @@ void tell_lines(const char *module) {
 /* ---- Of a frame. */
 
 struct wanted {
-    Dwarf_Die function;
-    const char *name; /* of it, or of the function that is inlined there */
+    Dwarf_Die function, called; /* it, or the function that is inlined there */
     int64_t at, base; /* from the frame's end on: of the lock, and from where variables are counted */
 };
 
@@ -131,13 +129,13 @@ static bool is_at(Dwarf_Die *variable, Dwarf_Die type, const struct wanted *want
     return false;
 }
 
-static const char *text_in_frame(Dwarf_Die *variable, const struct wanted *wanted) {
+static const char *text_in_frame(Dwarf_Die *variable, struct wanted *wanted) {
     struct found found = {RULE_NONE, NULL, NULL};
     Dwarf_Die type;
     if (!type_of(variable, &type) || !is_at(variable, type, wanted, &found))
         return NULL;
     if (!found.text && name_of(variable))
-        return written("%s:%s%s%s", wanted->name, name_of(variable), is_array(type) ? "[]" : "", found.member ? found.member : "");
+        return written("%s:%s%s%s", told_function(&wanted->called), told_variable(variable), is_array(type) ? "[]" : "", found.member ? found.member : "");
     return found.text;
 }
 
@@ -150,7 +148,7 @@ static void search_frame(Dwarf_Die *scope, struct wanted wanted, struct found *f
         int tag = dwarf_tag(&child);
         struct wanted inner = wanted;
         if (tag == DW_TAG_inlined_subroutine)
-            inner.name = qualified(&child);
+            inner.called = child;
         if (tag == DW_TAG_lexical_block || tag == DW_TAG_inlined_subroutine)
             search_frame(&child, inner, found, is_unclear);
         const char *text = tag == DW_TAG_variable || tag == DW_TAG_formal_parameter ? text_in_frame(&child, &wanted) : NULL;
@@ -166,7 +164,7 @@ bool frame_variable(const struct raw_class *class, struct found *found, bool *is
     if (!in || !function_at(in->module, raw_word_offset(class->word), &wanted.function) ||
         !base_of_frame(in, &wanted.function, &wanted.base))
         return false;
-    wanted.name = qualified(&wanted.function);
+    wanted.called = wanted.function;
     search_frame(&wanted.function, wanted, found, is_unclear);
     return found->text && !*is_unclear;
 }

@@ -262,6 +262,12 @@ static bool is_outdated(uintptr_t lock, uint32_t object, struct call call) {
     return frame_with(lock, call, &function, &offset) && (function != class->word || offset != class->offset);
 }
 
+/* Whether the object is a lock that lay so far down in a frame of the function. */
+bool is_of_frame(uint32_t object, uint64_t function, uint64_t offset) {
+    const struct raw_class *class = part_of(RAW_CLASSES, class_of(object));
+    return class->kind >= CLASS_STACK && class->word == function && class->offset == offset;
+}
+
 /* Whether processes share the lock in memory: files that are locked themselves are shared otherwise, and aren't initialised. */
 bool is_in_shared_memory(uint32_t object) {
     const struct raw_object *o = part_of(RAW_OBJECTS, object);

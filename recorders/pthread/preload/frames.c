@@ -10,19 +10,12 @@
 TABLE(struct span, noted, 16, NOTED);
 static uint32_t noted_count;
 
-static bool is_noted(const struct span *span) {
-    uint32_t count = LOAD(&noted_count);
-    for (uint32_t i = 0; i < count && i < NOTED; i++) {
-        const struct span *s = NTH(noted, i);
-        if (s->from == span->from && s->to == span->to && LOAD(&s->function) == span->function)
-            return true;
-    }
-    return false;
+static bool is_same(const struct span *noted, const struct span *span) {
+    return noted->from == span->from && noted->to == span->to && LOAD(&noted->function) == span->function;
 }
 
 /* The function is written last, and cleared first if something older was there. */
-static void note(const struct span *span) {
-    uint32_t which = ADD(&noted_count, 1) % NOTED;
+static void note_as(uint32_t which, const struct span *span) {
     struct span *to = NTH(noted, which);
     STORE(&to->function, 0);
     to->from = span->from;
@@ -30,11 +23,50 @@ static void note(const struct span *span) {
     STORE(&to->function, span->function);
 }
 
+static EARLY_THREAD_LOCAL struct span ended;
+
+/* Another thread can't see that the function has returned, so it would take the next lock here for this one. What has been taken in the frame
+   that is here now stays. */
+static void end_lock_of_ended(uintptr_t lock) {
+    uint32_t object = lock_object(lock);
+    if (object && is_of_frame(object, word_of(ended.function), ended.to - lock))
+        end_lock(lock);
+}
+
+/* What lies where a frame is now has ended. One that only has another depth than before goes on. */
+static void put_instead(uint32_t which, const struct span *now, bool is_noted) {
+    ended = *NTH(noted, which);
+    bool goes_on = ended.to == now->to && ended.function == now->function;
+    if (is_noted)
+        STORE(&((struct span *)NTH(noted, which))->function, 0);
+    else
+        note_as(which, now);
+    if (!goes_on)
+        each_lock_between(ended.from, ended.to, end_lock_of_ended);
+}
+
+/* Each that lies where this one does is replaced by it, so there are no two that share a place. */
+static void note(const struct span *span) {
+    uint32_t count = LOAD(&noted_count);
+    bool is_there = false;
+    for (uint32_t i = 0; i < count && i < NOTED; i++) {
+        const struct span *old = NTH(noted, i);
+        if (is_same(old, span))
+            return;
+        if (LOAD(&old->function) && old->from < span->to && span->from < old->to) {
+            put_instead(i, span, is_there);
+            is_there = true;
+        }
+    }
+    if (!is_there)
+        note_as(ADD(&noted_count, 1) % NOTED, span);
+}
+
 void note_frames(struct call call) {
     struct span spans[NOTED_AT_ONCE];
     uint32_t count = take_spans(spans, call, NOTED_AT_ONCE);
     for (uint32_t i = 0; i < count; i++)
-        if (spans[i].function && !is_noted(&spans[i]))
+        if (spans[i].function)
             note(&spans[i]);
 }
 

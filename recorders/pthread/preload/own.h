@@ -332,6 +332,7 @@ void forget_places_in_closed_modules(void);
 uint32_t object_of_lock(uintptr_t lock, struct call call); /* makes one of a new lock; 0: no room */
 uint32_t apart(uintptr_t lock, uint32_t object); /* an object of its own for a nested lock, or the same */
 uint32_t apart_early(uintptr_t lock, uint32_t object);
+bool is_of_frame(uint32_t object, uint64_t function, uint64_t offset);
 static inline uint32_t class_of(uint32_t object) { return ((struct raw_object *)part_of(RAW_OBJECTS, object))->class; }
 /* Whether the object is a semaphore that was found to be no lock. */
 static inline bool is_signal(uint32_t object) { return LOAD(&((struct raw_object *)part_of(RAW_OBJECTS, object))->is_signal); }
