@@ -245,6 +245,7 @@ enum rule {
     RULE_LOCAL,
     RULE_SIZE,
     RULE_OWN_LOCK,
+    RULE_UNLIKE, /* the locks of the class are of several types */
     RULES
 };
 struct found {
