@@ -51,15 +51,17 @@ static bool by_address(const struct raw_class *class, struct found *found) {
    it. Where a frame has several variables, the class has locks of them all. */
 static void by_look(const struct raw_class *class, struct found *found) {
     const struct raw_place *place = part_of(RAW_PLACES, (uint32_t)look->piece_place);
-    struct found user = {RULE_NONE, NULL}, bare = user, allocated = user, frame = user, sized = user;
+    struct found user = {RULE_NONE, NULL}, bare = user, allocated = user, frame = user, sized = user, doubtful = user;
     bool is_unclear = false;
     if (class->kind == CLASS_STACK && !frame_variable(class, &frame, &is_unclear) && is_unclear)
         return;
     unwind();
-    search_frames(&user, &bare);
+    search_frames(&user, &doubtful, &bare);
     bool is_sure = user.rule && user.rule != RULE_HOLDER;
     if (!is_sure && look->piece && place)
         search_allocation(place, &allocated);
+    if (!user.rule && !allocated.rule && doubtful.rule && is_confirmed_by_size(place, doubtful.text))
+        user = doubtful;
     if (!user.rule && !allocated.rule && look->piece && place)
         by_size(place, &sized);
     const struct found weak = {RULE_OWN_LOCK, weak_text}, *order[] = {&allocated, &user, &frame, &bare, &sized, &weak};
