@@ -11,8 +11,8 @@
 #include <stdint.h>
 #include <string.h>
 
-/* "lockrecb", little endian: its last letter is another one when what follows is laid out in another way. */
-#define RAW_MAGIC UINT64_C(0x626365726b636f6c)
+/* "lockrecc", little endian: its last letter is another one when what follows is laid out in another way. */
+#define RAW_MAGIC UINT64_C(0x636365726b636f6c)
 
 /* The file's size, if no limit forbids it, and the size under which a recording may well be too small. */
 #define RAW_BYTES (UINT64_C(4) << 30)
@@ -127,7 +127,8 @@ struct raw_class {
 #define RAW_NO_LOOK UINT32_MAX
 
 /* What `names` finds the lock's type by: where the first lock of a class was, and what the thread that met it had then in the registers
-   that a call keeps and on its stack, from the recorder's own frames on. */
+   that a call keeps and on its stack, from the recorder's own frames on. One place can make locks of two types: so some further ones of a
+   class are looked at too, which may show that the first one says nothing of them all. */
 enum raw_register { RAW_RBX, RAW_RBP, RAW_RSP, RAW_R12, RAW_R13, RAW_R14, RAW_R15, RAW_RIP, RAW_REGISTERS };
 
 #define RAW_LOOK_PROGRAM 1024 /* bytes of the program's frames */
@@ -136,6 +137,7 @@ enum raw_register { RAW_RBX, RAW_RBP, RAW_RSP, RAW_R12, RAW_R13, RAW_R14, RAW_R1
 struct raw_look {
     uint32_t is_ready; /* written last */
     uint32_t bytes;    /* of the stack, from the stack pointer on */
+    uint64_t further; /* the class, if it was looked at before; else 0 */
     uint64_t lock;
     uint64_t piece, piece_bytes; /* the piece of memory that it is in; 0 if it is in none */
     uint64_t piece_place;        /* where that was allocated */

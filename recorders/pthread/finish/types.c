@@ -115,13 +115,19 @@ static void tell_apart(struct type **all, size_t count) {
     }
 }
 
-/* ---- The files. A line is `debug MODULE` or `source PATH`, or has a class's number, the rule by which the type was found, the type, and
+/* ---- The files. A line is `unlike CLASS`, `debug MODULE` or `source PATH`, or has a class's number, the rule by which the type was found, the type, and
    the path of the source file that the type begins with, if it does. */
 
 struct reading {
     struct arena *arena;
-    size_t *of_class; /* one more than the number of its type */
+    size_t *of_class; /* one more than the number of its type, or UNLIKE */
 };
+
+#define UNLIKE SIZE_MAX
+
+/* Of a class whose locks are of several types, until types are spread. */
+static const struct type unlike;
+static bool is_any_unlike;
 
 static size_t type_named(const char *full, const char *rule) {
     for (size_t i = 0; i < type_count; i++)
@@ -164,7 +170,11 @@ static void tell_type(char *full, size_t room, const struct named *named) {
 
 static void read_line(const struct reading *r, char *line) {
     char full[2 * LONGEST_NAME];
-    unsigned module;
+    unsigned module, several;
+    if (sscanf(line, "unlike %u", &several) == 1 && several && several <= count_of(r->arena, RAW_CLASSES)) {
+        r->of_class[several] = UNLIKE;
+        is_any_unlike = true;
+    }
     if (sscanf(line, "debug %u", &module) == 1 && module && module <= count_of(r->arena, RAW_MODULES))
         modules[r->arena->modules[module]].has_debug = true;
     struct named named = split(line);
@@ -217,7 +227,7 @@ static void put_types(struct arena *a, const size_t *of_class) {
     uint32_t count = count_of(a, RAW_CLASSES);
     a->types = checked(calloc(count + 1, sizeof *a->types));
     for (uint32_t i = 1; i <= count; i++)
-        a->types[i] = of_class[i] ? &types[of_class[i] - 1] : NULL;
+        a->types[i] = of_class[i] == UNLIKE ? &unlike : of_class[i] ? &types[of_class[i] - 1] : NULL;
 }
 
 void read_types(void) {
@@ -239,7 +249,7 @@ void read_types(void) {
 }
 
 /* ---- One place makes locks of one class, such as the elements of an array. If the type of some of them is known, and it is one, the others
-   have it too: else an order between them would be one between two classes. */
+   have it too: else an order between them would be one between two classes. If some are known to be of several types, none has one. */
 
 struct made {
     char *identity; /* of the place */
@@ -248,6 +258,13 @@ struct made {
 
 static int by_identity(const void *a, const void *b) {
     return strcmp(((const struct made *)a)->identity, ((const struct made *)b)->identity);
+}
+
+static bool are_unlike(const struct made *made, size_t count) {
+    for (size_t i = 0; i < count; i++)
+        if (*made[i].type == &unlike)
+            return true;
+    return false;
 }
 
 /* The only type of some that were made in one place; NULL if there is none, or another one. */
@@ -263,9 +280,10 @@ static const struct type *only_type(const struct made *made, size_t count) {
 }
 
 static void spread_type(const struct made *made, size_t count) {
-    const struct type *only = only_type(made, count);
+    bool is_none = are_unlike(made, count);
+    const struct type *only = is_none ? NULL : only_type(made, count);
     for (size_t i = 0; i < count; i++)
-        if (!*made[i].type)
+        if (is_none || !*made[i].type)
             *made[i].type = only;
 }
 
@@ -284,7 +302,7 @@ static void add_made(struct arena *a, struct made **made, size_t *count) {
 void spread_types(void) {
     struct made *made = NULL;
     size_t count = 0;
-    for (size_t i = 0; i < arena_count && type_count; i++)
+    for (size_t i = 0; i < arena_count && (type_count || is_any_unlike); i++)
         add_made(&arenas[i], &made, &count);
     if (count)
         qsort(made, count, sizeof *made, by_identity);

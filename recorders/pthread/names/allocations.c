@@ -219,7 +219,8 @@ static bool may_be_bare(void) {
     return bytes % sizeof(pthread_mutex_t) == 0 && offset % sizeof(pthread_mutex_t) == 0;
 }
 
-/* All types of that size with a lock there have to give one text, those of the C++ library included, and one has to be in the unit. */
+/* All types of that size with a lock there have to give one text, those of the C++ library included, and one has to be in the unit, if one is
+   given. */
 bool only_of_size(struct module *m, Dwarf_Die *unit, bool is_unit_alone, const char **text) {
     bool is_in_unit = false;
     *text = NULL;
@@ -236,7 +237,7 @@ bool only_of_size(struct module *m, Dwarf_Die *unit, bool is_unit_alone, const c
         if (!one || (*text && strcmp(*text, one) != 0))
             return false;
         *text = one;
-        is_in_unit |= type.cu == unit->cu;
+        is_in_unit |= !unit || type.cu == unit->cu;
     }
     return is_in_unit && !is_union_unclear;
 }
@@ -273,4 +274,13 @@ bool by_size(const struct raw_place *place, struct found *found) {
         return false;
     *found = (struct found){RULE_SIZE, only};
     return true;
+}
+
+/* What may be of before is not, if nothing else can be there. */
+bool is_confirmed_by_size(const struct raw_place *place, const char *text) {
+    uint64_t i = asking_caller(place);
+    const struct loaded *in = i < place->count && i < RAW_FRAMES ? loaded_numbered(raw_word_module(place->callers[i])) : NULL;
+    const char *only;
+    element = 0;
+    return in && only_of_size(in->module, NULL, false, &only) && strcmp(only, text) == 0;
 }

@@ -7,6 +7,7 @@
 
 struct search {
     const struct value *value; /* the object whose members are looked at */
+    bool is_old;               /* a pointer on the way there may have been written before the memory was allocated */
     struct found *found;
     int hops; /* how many more pointers may be followed */
     bool *is_unclear; /* members don't agree: one of them points to what was there before */
@@ -19,15 +20,17 @@ struct holder {
 
 static void search_at(Dwarf_Die type, uint64_t offset, const struct search *s, struct holder holder, int depth);
 
-static void note(const struct search *s, enum rule rule, const char *text) {
+static void note(const struct search *s, enum rule rule, const char *text, bool is_old) {
+    bool is_doubtful = is_old && rule == RULE_POINTER;
     *s->is_unclear |= s->found->text && strcmp(s->found->text, text) != 0;
     if (!s->found->text)
-        *s->found = (struct found){rule, text, NULL};
+        *s->found = (struct found){rule, text, NULL, is_doubtful};
+    s->found->is_doubtful &= is_doubtful;
 }
 
 /* The memory of one lock, or of an array of them, is held by the member. Of bare locks the member has to be the owner: a guard, for
    example, points to locks of others. */
-static bool is_held(Dwarf_Die to, uint64_t word, struct holder holder, const struct search *s) {
+static bool is_held(Dwarf_Die to, uint64_t word, struct holder holder, const struct search *s, bool is_old) {
     struct path path = {.count = 0};
     Dwarf_Die peeled = to;
     bool is_lock;
@@ -39,9 +42,9 @@ static bool is_held(Dwarf_Die to, uint64_t word, struct holder holder, const str
         return false;
     const char *text = text_of(&path);
     if (text)
-        note(s, RULE_POINTER, text);
+        note(s, RULE_POINTER, text, is_old);
     else if (holder.is_owner)
-        note(s, RULE_HOLDER, written("%s%s", holder.text, look->piece_bytes > size ? "[]" : ""));
+        note(s, RULE_HOLDER, written("%s%s", holder.text, look->piece_bytes > size ? "[]" : ""), is_old);
     return text || holder.is_owner;
 }
 
@@ -56,9 +59,10 @@ static void search_pointer(Dwarf_Die type, uint64_t offset, const struct search 
         return;
     inner.value = &object;
     inner.hops--;
+    inner.is_old |= !holder.is_owner && may_be_old(s->value, offset); /* an owner has no pointer any more to what it freed */
     if (has_lock(to, object.at, &one, &unused))
-        note(s, RULE_POINTER, one.text);
-    else if (!is_held(to, object.at, holder, s) && s->hops > 0 && read_word(object.at, &probe))
+        note(s, RULE_POINTER, one.text, inner.is_old);
+    else if (!is_held(to, object.at, holder, s, inner.is_old) && s->hops > 0 && read_word(object.at, &probe))
         search_at(to, 0, &inner, (struct holder){NULL, false}, depth + 1);
 }
 
@@ -126,7 +130,7 @@ static void search_at(Dwarf_Die type, uint64_t offset, const struct search *s, s
 }
 
 bool search_members(Dwarf_Die type, const struct value *value, struct found *found, int hops, bool *is_unclear) {
-    struct search s = {value, found, hops, is_unclear};
+    struct search s = {value, false, found, hops, is_unclear};
     search_at(type, 0, &s, (struct holder){NULL, false}, 0);
     return found->text != NULL;
 }

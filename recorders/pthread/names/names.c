@@ -4,6 +4,7 @@
 
    For each FOLDER/raw/PROCESS-N.arena that has none yet it writes a file PROCESS-N.names:
 
+     unlike CLASS            its locks are of several types
      debug NUMBER            a module of the program that has debug information, as far as it was looked at
      source PATH             a source file of these, but for what comes with the system
      CLASS <tab> RULE <tab> TEXT [<tab> PATH]    PATH is of the file that TEXT begins with
@@ -33,7 +34,7 @@ static const char *const rule_words[RULES] = {
     [RULE_ARGUMENT] = "argument",   [RULE_POINTER] = "pointer", [RULE_HOLDER] = "holder",
     [RULE_TEMPLATE] = "template",   [RULE_CONSTRUCTOR] = "constructor", [RULE_ALLOCATION_VARIABLE] = "allocated-for",
     [RULE_FRAME] = "frame",         [RULE_LOCAL] = "local",     [RULE_SIZE] = "size",
-    [RULE_OWN_LOCK] = "own-lock",
+    [RULE_OWN_LOCK] = "own-lock",   [RULE_UNLIKE] = "unlike",
 };
 
 /* ---- One class. */
@@ -55,15 +56,17 @@ static bool by_address(const struct raw_class *class, struct found *found) {
    it. Where a frame has several variables, the class has locks of them all. */
 static void by_look(const struct raw_class *class, struct found *found) {
     const struct raw_place *place = part_of(RAW_PLACES, (uint32_t)look->piece_place);
-    struct found user = {RULE_NONE, NULL}, bare = user, allocated = user, frame = user, sized = user;
+    struct found user = {RULE_NONE, NULL}, bare = user, allocated = user, frame = user, sized = user, doubtful = user;
     bool is_unclear = false;
     if (class->kind == CLASS_STACK && !frame_variable(class, &frame, &is_unclear) && is_unclear)
         return;
     unwind();
-    search_frames(&user, &bare);
+    search_frames(&user, &doubtful, &bare);
     bool is_sure = user.rule && user.rule != RULE_HOLDER;
     if (!is_sure && look->piece && place)
         search_allocation(place, &allocated);
+    if (!user.rule && !allocated.rule && doubtful.rule && is_confirmed_by_size(place, doubtful.text))
+        user = doubtful;
     if (!user.rule && !allocated.rule && look->piece && place)
         by_size(place, &sized);
     const struct found weak = {RULE_OWN_LOCK, weak_text}, *order[] = {&allocated, &user, &frame, &bare, &sized, &weak};
@@ -124,15 +127,44 @@ static void write_modules(FILE *file) {
     }
 }
 
+/* Whether a further lock of a class isn't of the type of the first one: it is of another one, or in a piece of another size, and of none that
+   is known. A class that is a lock itself says nothing against one that has it. */
+static bool is_of_another(const struct raw_class *class, const struct raw_look *further, const struct found *first) {
+    const struct raw_look *before = part_of(RAW_LOOKS, class->look == RAW_NO_LOOK ? 0 : class->look);
+    struct found found = {RULE_NONE, NULL};
+    look = further;
+    weak_text = NULL;
+    by_look(class, &found);
+    if (!found.text)
+        return before && before->piece_bytes != further->piece_bytes;
+    return found.rule != RULE_OWN_LOCK && first->rule != RULE_OWN_LOCK && strcmp(found.text, first->text) != 0;
+}
+
+/* A class whose locks are of two types has none. */
+static void drop_unlike(struct found *names, uint32_t count) {
+    for (uint32_t i = 1; i <= count_of(RAW_LOOKS); i++) {
+        const struct raw_look *at = part_of(RAW_LOOKS, i);
+        uint64_t class = at && at->is_ready ? at->further : 0;
+        if (class && class <= count && names[class].text && is_of_another(part_of(RAW_CLASSES, (uint32_t)class), at, &names[class]))
+            names[class] = (struct found){.rule = RULE_UNLIKE};
+    }
+}
+
 static void write_names(FILE *file) {
-    for (uint32_t i = 1; i <= count_of(RAW_CLASSES); i++) {
-        struct found found = {RULE_NONE, NULL};
+    uint32_t count = count_of(RAW_CLASSES);
+    struct found *names = checked(calloc(count + 1, sizeof *names));
+    for (uint32_t i = 1; i <= count; i++) {
         const struct raw_class *class = part_of(RAW_CLASSES, i);
         if (class->kind)
-            name_class(class, &found);
-        if (found.text)
-            write_found(file, i, &found);
+            name_class(class, &names[i]);
     }
+    drop_unlike(names, count);
+    for (uint32_t i = 1; i <= count; i++)
+        if (names[i].text)
+            write_found(file, i, &names[i]);
+        else if (names[i].rule == RULE_UNLIKE)
+            fprintf(file, "unlike %u\n", i);
+    free(names);
     write_modules(file);
 }
 

@@ -263,12 +263,14 @@ enum rule {
     RULE_LOCAL,
     RULE_SIZE,
     RULE_OWN_LOCK,
+    RULE_UNLIKE, /* the locks of the class are of several types */
     RULES
 };
 struct found {
     enum rule rule;
     const char *text;
     const char *member; /* of a lock without a text, in a structure without a name: how a variable leads to it, such as `.in`; else NULL */
+    bool is_doubtful;   /* what says so may have been written before the memory was allocated */
 };
 
 void tell_lines(const char *module); /* where the static variables are declared whose addresses are on standard input */
@@ -281,12 +283,14 @@ bool frame_variable(const struct raw_class *class, struct found *found, bool *is
 
 /* objects.c: by the variables of the functions that were running. */
 bool has_lock(Dwarf_Die type, uint64_t at, struct found *found, bool *is_bare);
-bool search_frames(struct found *found, struct found *bare);
+bool search_frames(struct found *found, struct found *doubtful, struct found *bare);
 
 /* stale.c: variables that point to what lay there before. */
 void find_active_frames(void);
 bool is_in_allocating_call(int frame);
-bool is_stale(Dwarf_Die *variable, Dwarf_Die *scope, int frame, uint64_t address, const struct value *value);
+enum age { IS_OF_NOW, MAY_BE_STALE, IS_STALE };
+enum age age_of(Dwarf_Die *variable, Dwarf_Die *scope, int frame, uint64_t address, const struct value *value);
+bool may_be_old(const struct value *object, uint64_t offset);
 
 /* constructors.c */
 #define MOST_CODE (UINT64_C(1) << 18) /* bytes of a function that are looked through */
@@ -305,6 +309,7 @@ bool search_members(Dwarf_Die type, const struct value *value, struct found *fou
 bool lock_in_piece(Dwarf_Die type, struct path *path); /* an object of the type, or an array of them, in that memory has the lock where it is */
 bool search_allocation(const struct raw_place *place, struct found *found);
 bool by_size(const struct raw_place *place, struct found *found);
+bool is_confirmed_by_size(const struct raw_place *place, const char *text); /* nothing else that has a lock there is as long */
 bool only_of_size(struct module *m, Dwarf_Die *unit, bool is_unit_alone, const char **text); /* all types of that size that have a lock there give it */
 extern const char *weak_text; /* of the last path without a name: a class that is a lock itself */
 

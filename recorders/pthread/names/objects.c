@@ -118,7 +118,7 @@ static bool leads_to_it(struct variable_here *v, struct found *found, int hops, 
 struct round {
     int number, frame;
     uint64_t address;
-    struct found *found, *bare;
+    struct found *found, *doubtful, *bare;
     bool *is_unclear; /* variables of one scope don't agree: one of them points to what was there before */
 };
 
@@ -129,7 +129,19 @@ static bool look_at_variable(const struct round *r, struct scopes *s, int scope,
         return false;
     bool is_of_now = is_pointer(dwarf_tag(&v->peeled)) ? r->number > 0 : v->value.kind == IN_MEMORY;
     bool is_found = r->number == 0 ? is_it(v, s, scope, found, r->bare) : leads_to_it(v, found, r->number - 1, r->is_unclear);
-    return is_found && (is_of_now || !is_stale(&v->die, &s->list[scope], r->frame, r->address, &v->value));
+    enum age age = is_found && !is_of_now ? age_of(&v->die, &s->list[scope], r->frame, r->address, &v->value) : IS_OF_NOW;
+    found->is_doubtful |= age == MAY_BE_STALE;
+    return is_found && age != IS_STALE;
+}
+
+/* What is doubtful counts only if nothing else is found. */
+static bool is_set_aside(const struct round *r) {
+    if (*r->is_unclear || !r->found->is_doubtful)
+        return false;
+    if (!r->doubtful->text)
+        *r->doubtful = *r->found;
+    *r->found = (struct found){RULE_NONE, NULL, NULL, false};
+    return true;
 }
 
 static bool search_scope(const struct round *r, struct scopes *s, int scope) {
@@ -141,10 +153,10 @@ static bool search_scope(const struct round *r, struct scopes *s, int scope) {
         if (!look_at_variable(r, s, scope, &v, &found))
             continue;
         *r->is_unclear |= r->found->text && strcmp(r->found->text, found.text) != 0;
-        if (!r->found->text)
+        if (!r->found->text || !found.is_doubtful)
             *r->found = found;
     } while (!*r->is_unclear && dwarf_siblingof(&v.die, &v.die) == 0);
-    return r->found->text != NULL;
+    return r->found->text && !is_set_aside(r);
 }
 
 /* At the call of the recorder the first argument is still the lock, which serves variables that end with the call. */
@@ -223,17 +235,17 @@ static bool search_frame(const struct round *r) {
     return r->number == 0 && search_arguments(r->frame, r->found);
 }
 
-bool search_frames(struct found *found, struct found *bare) {
+bool search_frames(struct found *found, struct found *doubtful, struct found *bare) {
     read_scopes();
     find_active_frames();
     bool is_unclear = false;
     for (int i = 0; i < ROUNDS * frame_count && !found->text; i++) {
         int frame = i % frame_count;
-        struct round r = {i / frame_count, frame, address_in(&frames[frame]), found, bare, &is_unclear};
+        struct round r = {i / frame_count, frame, address_in(&frames[frame]), found, doubtful, bare, &is_unclear};
         if (frame >= first_of_program)
             search_frame(&r);
     }
     if (is_unclear)
-        *found = (struct found){RULE_NONE, NULL, NULL};
+        *found = *doubtful = (struct found){RULE_NONE, NULL, NULL, false};
     return found->text != NULL;
 }

@@ -8,6 +8,7 @@ struct active {
 };
 
 static struct active active[FRAMES + 1];
+static bool is_allocation_known;
 
 /* The callers of the allocation. A function is known by where its entry is, and is NULL without debug information. */
 struct callers {
@@ -69,6 +70,7 @@ void find_active_frames(void) {
     const struct raw_place *place = look->piece ? part_of(RAW_PLACES, (uint32_t)look->piece_place) : NULL;
     struct callers callers;
     memset(active, 0, sizeof active);
+    is_allocation_known = place != NULL;
     if (!place)
         return;
     read_callers(place, &callers);
@@ -84,7 +86,7 @@ bool is_in_allocating_call(int frame) { return active[frame].is_active && active
 
 struct instruction {
     unsigned char code;
-    int reg, other, mode; /* the other register says where memory is, unless the mode is REGISTERS_ONLY */
+    int reg, other, mode; /* the other register says where memory is, unless the mode is REGISTERS_ONLY; -1 if two do */
     int32_t distance;     /* of memory from that register */
 };
 
@@ -96,6 +98,8 @@ struct instruction {
 #define REGISTERS_ONLY 3
 #define WITH_BYTE 1
 #define WITH_WORD 2
+#define RSP_IN_CODE 4 /* memory by this one, and by r12, has one more byte, which is the next one if there is no second register */
+#define NO_SECOND 0x24
 
 static bool read_instruction(const unsigned char *bytes, uint64_t count, struct instruction *i) {
     if (count < LEAST_BYTES || (bytes[0] & 0xf8) != WIDE)
@@ -103,10 +107,14 @@ static bool read_instruction(const unsigned char *bytes, uint64_t count, struct 
     *i = (struct instruction){.code = bytes[1], .mode = bytes[2] >> 6};
     i->reg = (bytes[2] >> 3 & 7) | (bytes[0] & 4) << 1;
     i->other = (bytes[2] & 7) | (bytes[0] & 1) << 3;
-    if (i->mode == WITH_BYTE)
-        i->distance = (int8_t)bytes[3];
-    if (i->mode == WITH_WORD && count >= 3 + sizeof i->distance)
-        memcpy(&i->distance, bytes + 3, sizeof i->distance);
+    bool has_more = i->mode != REGISTERS_ONLY && (bytes[2] & 7) == RSP_IN_CODE;
+    size_t at = has_more ? 4 : 3;
+    if (has_more && bytes[3] != NO_SECOND)
+        i->other = -1;
+    if (i->mode == WITH_BYTE && count > at)
+        i->distance = (int8_t)bytes[at];
+    if (i->mode == WITH_WORD && count >= at + sizeof i->distance)
+        memcpy(&i->distance, bytes + at, sizeof i->distance);
     return true;
 }
 
@@ -137,6 +145,57 @@ static bool is_of_frame(const struct instruction *i, int64_t distance) {
 static bool stores(const struct instruction *i, int64_t distance) { return i->code == STORE && is_of_frame(i, distance); }
 
 static bool takes_address(const struct instruction *i, int64_t distance) { return i->code == TAKE_ADDRESS && is_of_frame(i, distance); }
+
+/* ---- A word in memory was set since if the code after the allocation stores to it, by a register that calls keep and that still has what it
+   had then. */
+
+/* As code has them, and debug information. */
+static const struct {
+    int64_t in_code;
+    int number;
+} kept[] = {{3, 3}, {RSP_IN_CODE, RSP}, {RBP_IN_CODE, RBP}, {12, 12}, {13, 13}, {14, 14}, {15, 15}};
+
+#define CODE_REGISTERS 16
+
+/* The register and the distance are one number. */
+static bool stores_at(const struct instruction *i, int64_t what) {
+    bool is_by_register = i->mode != REGISTERS_ONLY && i->other >= 0 && (i->mode != 0 || (i->other & 7) != RBP_IN_CODE);
+    return i->code == STORE && is_by_register && i->distance * (int64_t)CODE_REGISTERS + i->other == what;
+}
+
+static bool is_stored_in(int frame, uint64_t at) {
+    const struct frame *f = &frames[frame];
+    const struct active *a = &active[frame];
+    for (size_t i = 0; i < sizeof kept / sizeof *kept; i++) {
+        int64_t distance = (int64_t)(at - f->registers[kept[i].number]);
+        if (f->known >> kept[i].number & 1 && distance == (int32_t)distance &&
+            has_instruction(f->in->module, a->allocated, a->at, stores_at, distance * CODE_REGISTERS + kept[i].in_code) &&
+            !has_instruction(f->in->module, a->allocated, a->at, sets_register, kept[i].in_code))
+            return true;
+    }
+    return false;
+}
+
+static bool is_stored_since(uint64_t at) {
+    for (int i = 0; i < frame_count; i++)
+        if (active[i].is_active && active[i].at > active[i].allocated && is_stored_in(i, at))
+            return true;
+    return false;
+}
+
+/* Whether it lies in a frame that was there then, or further out than what is known. */
+static bool is_in_active_frame(uint64_t at) {
+    for (int i = 0; i < frame_count && frames[i].has_cfa; i++)
+        if (at < frames[i].cfa)
+            return active[i].is_active;
+    return true;
+}
+
+/* Whether a word may have been written before the memory was allocated. What isn't in memory is as old as its variable. */
+bool may_be_old(const struct value *object, uint64_t offset) {
+    uint64_t at = object->at + offset;
+    return is_allocation_known && object->kind == IN_MEMORY && is_in_active_frame(at) && !is_stored_since(at);
+}
 
 /* ---- A variable that has different places in different parts of the code was set before a call if it has one in it that isn't a constant, or
    after it what the function was called with, or what a register has that calls keep and that nothing set since. */
@@ -172,32 +231,33 @@ static bool is_set_before(Dwarf_Attribute *location, int frame, uint64_t address
 
 #define FRAME_HEAD 16 /* bytes between where rbp points to and the frame's end */
 
-static bool is_set_in_frame(int frame, const struct value *value) {
+static enum age age_in_frame(int frame, const struct value *value) {
     const struct frame *f = &frames[frame];
     const struct active *a = &active[frame];
     Dwarf_Die function;
     Dwarf_Addr entry;
     int64_t distance = (int64_t)(value->at - f->registers[RBP]);
     if (value->kind != IN_MEMORY || !function_at(f->in->module, address_in(f), &function) || dwarf_entrypc(&function, &entry) != 0)
-        return false;
+        return IS_STALE;
     bool is_by_rbp = f->has_cfa && f->known >> RBP & 1 && f->cfa == f->registers[RBP] + FRAME_HEAD;
-    return !is_by_rbp || has_instruction(f->in->module, a->allocated, a->at, stores, distance) ||
-           has_instruction(f->in->module, entry, a->at, takes_address, distance);
+    if (is_by_rbp && has_instruction(f->in->module, a->allocated, a->at, stores, distance))
+        return IS_OF_NOW;
+    return !is_by_rbp || has_instruction(f->in->module, entry, a->at, takes_address, distance) ? MAY_BE_STALE : IS_STALE;
 }
 
 /* ---- */
 
 /* Whether a variable is what was there before, as far as that can be. A block that the allocation wasn't in came later, and code before the
    allocation comes round to it again. */
-bool is_stale(Dwarf_Die *variable, Dwarf_Die *scope, int frame, uint64_t address, const struct value *value) {
+enum age age_of(Dwarf_Die *variable, Dwarf_Die *scope, int frame, uint64_t address, const struct value *value) {
     const struct active *a = &active[frame];
     Dwarf_Attribute location;
     if (!a->is_active || a->at < a->allocated || dwarf_haspc(scope, a->allocated - 1) <= 0)
-        return false;
+        return IS_OF_NOW;
     if (!dwarf_attr_integrate(variable, DW_AT_location, &location))
-        return true;
+        return IS_STALE;
     unsigned form = dwarf_whatform(&location);
     if (form == DW_FORM_sec_offset || form == DW_FORM_loclistx || form == DW_FORM_data4)
-        return is_set_before(&location, frame, address);
-    return !is_set_in_frame(frame, value);
+        return is_set_before(&location, frame, address) ? IS_STALE : IS_OF_NOW;
+    return age_in_frame(frame, value);
 }

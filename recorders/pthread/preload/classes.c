@@ -106,6 +106,56 @@ void note_size(uint32_t number, uint64_t bytes) {
     while (new != steps && !SWAP(&place->steps, &steps, new));
 }
 
+/* ---- Further locks of a class in allocated memory, since one place can make locks of two types. Looked at are those that are in pieces of
+   another size, and those that other code takes. That is looked for anew with each of the first new locks of a class, and later each time
+   that it has had twice as many. */
+
+#define MOST_COUNTED (UINT32_C(1) << 16) /* new locks of a class, and so the threads that make them don't wait for one another any more */
+#define ALL_COUNTED 16
+#define MOST_SIZES 3
+#define MOST_TAKERS 5
+
+struct further {
+    uint32_t locks; /* that were new; two threads may count one */
+    uint32_t bytes; /* of the last piece that was of another size than the one before */
+    uint8_t sizes, takers;
+};
+TABLE(struct further, furthers, 16, MOST_CLASSES);
+
+static struct further *further_of(uint32_t class) {
+    uint32_t which = class % MOST_CLASSES;
+    return NTH(furthers, which);
+}
+
+static bool is_one_to_look_at(struct further *f) {
+    uint32_t locks = f->locks;
+    if (LIKELY(locks == MOST_COUNTED))
+        return false;
+    f->locks = ++locks;
+    return locks <= ALL_COUNTED || !(locks & (locks - 1));
+}
+
+static void note_new_lock(uint32_t class, uintptr_t lock, const struct memory *memory, struct call call) {
+    struct further *f = further_of(class);
+    uint32_t bytes = (uint32_t)memory->bytes;
+    if (is_one_to_look_at(f) && !*looks_of(class))
+        *looks_of(class) = 1;
+    if (LIKELY(bytes == f->bytes) || f->sizes > MOST_SIZES)
+        return;
+    f->bytes = bytes;
+    if (f->sizes++)
+        look_further(class, lock, memory, call);
+}
+
+/* The first one that takes locks of the class took the one that was looked at first. */
+static void note_new_taker(uint32_t class, uintptr_t lock, struct call call) {
+    struct further *f = further_of(class);
+    struct memory memory;
+    if (f->takers > MOST_TAKERS || f->takers++ == 0 || !find_memory(lock, &memory))
+        return;
+    look_further(class, lock, &memory, call);
+}
+
 /* ---- Who takes a lock in allocated memory. */
 
 static struct names takes;
@@ -113,11 +163,12 @@ static struct names takes;
 #define TAKE_FRAMES 8
 
 /* Of a class and a place, once. */
-static void note_take(uint32_t class, uint32_t place) {
+static void note_take(uint32_t class, uint32_t place, uintptr_t lock, struct call call) {
     uint32_t *slot = added_slot(&takes, mixed((uint64_t)class << 32 | place)), none = 0;
     if (!slot || LOAD(slot) || !SWAP(slot, &none, 1))
         return;
     *looks_of(class) = LOOKS;
+    note_new_taker(class, lock, call);
     uint32_t number = take_part(RAW_TAKES);
     if (!number)
         return;
@@ -126,14 +177,14 @@ static void note_take(uint32_t class, uint32_t place) {
     STORE(&take->class, class);
 }
 
-void look_at_taker(uint32_t class, struct call call) {
+void look_at_taker(uint32_t class, uintptr_t lock, struct call call) {
     uint8_t *left = looks_of(class);
     if (LIKELY(!*left))
         return;
     (*left)--;
     uint32_t place = place_of_call(call, TAKE_FRAMES);
     if (place)
-        note_take(class, place);
+        note_take(class, place, lock, call);
 }
 
 static uint32_t class_in_frame(uintptr_t lock, struct call call) {
@@ -295,7 +346,7 @@ static bool is_own(uintptr_t lock, uint32_t class, struct call call) {
     return kind == CLASS_THREAD || ((kind == CLASS_STACK || kind == CLASS_TAKE) && is_below_end(lock, call));
 }
 
-/* Only the first lock of a class is looked at. */
+/* The first lock of a class is looked at. */
 static void look_once(uint32_t number, uintptr_t lock, const struct memory *memory, struct call call) {
     struct raw_class *class = number ? part_of(RAW_CLASSES, number) : NULL;
     if (RARELY(class && !LOAD(&class->look)))
@@ -311,6 +362,8 @@ uint32_t object_of_lock(uintptr_t lock, struct call call) {
     struct memory memory;
     uint32_t class = class_of_lock(lock, &memory, call);
     look_once(class, lock, &memory, call);
+    if (class && memory.bytes && kind_of(class) == CLASS_HEAP)
+        note_new_lock(class, lock, &memory, call);
     if (is_own(lock, class, call))
         note_own_lock(lock);
     return new_object(lock, class, false);

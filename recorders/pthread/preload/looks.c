@@ -1,6 +1,6 @@
-/* Looks at the first lock of each class: the registers that a call keeps, and a piece of the stack, from this function's frame on. `names`
-   finds there, by the program's debug information, which object has the lock, and so its type. Nothing is read but the thread's own
-   stack, as far as it could be followed; that takes no system call. */
+/* Looks at the first lock of each class, and at some further ones: the registers that a call keeps, and a piece of the stack, from this
+   function's frame on. `names` finds there, by the program's debug information, which object has the lock, and so its type. Nothing is
+   read but the thread's own stack, as far as it could be followed; that takes no system call. */
 #include "own.h"
 
 #ifdef __x86_64__
@@ -41,16 +41,29 @@ static void fill(struct raw_look *look, struct call call) { (void)look, (void)ca
 
 #endif
 
-/* Of two threads that look at once the first counts. */
-void look_at(struct raw_class *class, uintptr_t lock, const struct memory *memory, struct call call) {
-    uint32_t none = 0, number = take_part(RAW_LOOKS);
-    if (!SWAP(&class->look, &none, number ? number : RAW_NO_LOOK) || !number)
-        return;
+static inline __attribute__((always_inline)) void write_look(uint32_t number, uint32_t further, uintptr_t lock, const struct memory *memory,
+                                                             struct call call) {
     struct raw_look *look = part_of(RAW_LOOKS, number);
+    look->further = further;
     look->lock = lock;
     look->piece = memory->from;
     look->piece_bytes = memory->bytes;
     look->piece_place = memory->place;
     fill(look, call);
     STORE(&look->is_ready, 1);
+}
+
+/* Of two threads that look at once the first counts. */
+void look_at(struct raw_class *class, uintptr_t lock, const struct memory *memory, struct call call) {
+    uint32_t none = 0, number = take_part(RAW_LOOKS);
+    if (SWAP(&class->look, &none, number ? number : RAW_NO_LOOK) && number)
+        write_look(number, 0, lock, memory, call);
+}
+
+/* Half of the room is for the first locks of classes. */
+void look_further(uint32_t class, uintptr_t lock, const struct memory *memory, struct call call) {
+    const struct raw_region *region = &arena->regions[RAW_LOOKS];
+    uint32_t number = LOAD(&region->used) < region->room / 2 ? take_part(RAW_LOOKS) : 0;
+    if (number)
+        write_look(number, class, lock, memory, call);
 }

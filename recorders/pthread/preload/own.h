@@ -343,7 +343,7 @@ bool is_lasting(uint32_t object, bool is_nested);
 const uint8_t *looks_left_at(uint32_t class);
 bool is_mapped_place(uint32_t place);
 void note_size(uint32_t place, uint64_t bytes);
-void look_at_taker(uint32_t class, struct call call);
+void look_at_taker(uint32_t class, uintptr_t lock, struct call call);
 bool know_by_place(uintptr_t lock, struct call call); /* whether it is a lock of this process alone */
 void know_by_text(uintptr_t lock, enum class_kind kind, uint32_t text, struct call call);
 uint32_t reason_to_ignore(uint32_t object);
@@ -357,6 +357,7 @@ void forget_own_lock(uintptr_t lock); /* whose thread has ended */
 /* ---- looks.c */
 
 void look_at(struct raw_class *class, uintptr_t lock, const struct memory *memory, struct call call);
+void look_further(uint32_t class, uintptr_t lock, const struct memory *memory, struct call call);
 
 /* ---- threads.c */
 

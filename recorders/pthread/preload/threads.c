@@ -786,7 +786,7 @@ static void push_held(struct thread *t, uintptr_t lock, uint32_t object, uint8_t
     }
     bool is_in_any_order = t->failed == lock; /* it may be std::lock, which takes what it is given so */
     if (raw_plain(mode) < MODE_TRY_WRITE && !is_in_any_order && kind != KIND_THREAD)
-        look_at_taker(class_of(object), call);
+        look_at_taker(class_of(object), lock, call);
     if (RARELY(t->source))
         note_what_it_knows(lock, object, kind);
     uint8_t weak = mode & RAW_WEAK;

@@ -157,6 +157,41 @@ static void rounds(void) {
     }
 }
 
+/* A member that still points there, and what another function has made and keeps. */
+
+struct server {
+    struct old *current;
+    int count;
+};
+
+static void *kept[4];
+
+APART static int open_new(void) {
+    kept[0] = make();
+    return 0;
+}
+
+APART static void take_kept(int which) { take(&((struct new *)kept[which])->m); }
+
+APART static void serve(struct server *server) {
+    int which;
+    server->current = make();
+    says("old");
+    take(&server->current->m);
+    free(server->current);
+    which = open_new();
+    says("new");
+    take_kept(which);
+    drop(kept[which]);
+    server->count++;
+}
+
+static void members(void) {
+    struct server server = {NULL, some};
+    serve(&server);
+    some = server.count;
+}
+
 int main(void) {
     here();
     called();
@@ -166,6 +201,7 @@ int main(void) {
     any();
     drops_below();
     tree();
+    members();
     rounds(); /* the last, since a compiler may have its first round apart */
     return 0;
 }
