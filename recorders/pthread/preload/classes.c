@@ -120,11 +120,16 @@ struct further {
     uint32_t bytes; /* of the last piece that was of another size than the one before */
     uint8_t sizes, takers;
 };
-TABLE(struct further, furthers, 16, MOST_CLASSES);
-
+/* Of all classes, once a lock of one is in allocated memory; NULL if there is no room for it. */
 static struct further *further_of(uint32_t class) {
-    uint32_t which = class % MOST_CLASSES;
-    return NTH(furthers, which);
+    static struct further *all;
+    struct further *there = LOAD(&all);
+    if (RARELY(!there)) {
+        struct further *made = take_spare(sizeof *made * MOST_CLASSES);
+        if (made && SWAP(&all, &there, made))
+            there = made;
+    }
+    return there ? &there[class % MOST_CLASSES] : NULL;
 }
 
 static bool is_one_to_look_at(struct further *f) {
@@ -138,6 +143,8 @@ static bool is_one_to_look_at(struct further *f) {
 static void note_new_lock(uint32_t class, uintptr_t lock, const struct memory *memory, struct call call) {
     struct further *f = further_of(class);
     uint32_t bytes = (uint32_t)memory->bytes;
+    if (!f)
+        return;
     if (is_one_to_look_at(f) && !*looks_of(class))
         *looks_of(class) = 1;
     if (LIKELY(bytes == f->bytes) || f->sizes > MOST_SIZES)
@@ -151,7 +158,7 @@ static void note_new_lock(uint32_t class, uintptr_t lock, const struct memory *m
 static void note_new_taker(uint32_t class, uintptr_t lock, struct call call) {
     struct further *f = further_of(class);
     struct memory memory;
-    if (f->takers > MOST_TAKERS || f->takers++ == 0 || !find_memory(lock, &memory))
+    if (!f || f->takers > MOST_TAKERS || f->takers++ == 0 || !find_memory(lock, &memory))
         return;
     look_further(class, lock, &memory, call);
 }
