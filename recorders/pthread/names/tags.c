@@ -67,7 +67,7 @@ static bool is_another(Dwarf_Die *type, const char *header, Dwarf_Die other) {
     return path && strcmp(path, header) != 0;
 }
 
-/* Files of one name are told apart by their folders, so all are noted, whichever the program used. */
+/* Notes each header that declares one, whichever the program used: files of one name are told apart by their folders. */
 static void note_headers(struct module *m, struct namesakes all) {
     for (size_t i = 0; i < all.count; i++) {
         Dwarf_Die die = all.list[i].die;

@@ -24,7 +24,10 @@ public final class Recording {
 
     /** Whether recording has ended. */
     static volatile boolean isOver = true;
-    /** How many tasks an error has ended. (No method is called to count one, since the stack may be full.) */
+    /**
+     * How many tasks an error has ended; two at once may count as one. (No method is called to count one, since the stack
+     * may be full.)
+     */
     static volatile int broken;
     static final Way.Common common = new Way.Common();
     static String[] sources = {};
