@@ -44,13 +44,14 @@ enum mode { MODE_WRITE, MODE_READ, MODE_REC_READ, MODE_TRY_WRITE, MODE_TRY_READ,
 /* Added to the mode of an acquisition: the program says in which order locks of the class are nested, and this one comes after all of them
    that are held. And of one that comes under others: the wait for it gives up at a time; the thread itself made the lock, has held
    others ever since, and no other thread has come to it; it is a thread that had ended; it is a routine that had run once, for which the thread would
-   have waited a little earlier. */
+   have waited a little earlier. RAW_UNDER_NEW, of a lock that isn't a thread: all locks that the thread held were new, and this one isn't. */
 #define RAW_IN_ORDER 8
 #define RAW_TIMED 16
 #define RAW_NEW 32
 #define RAW_ENDED 64
 #define RAW_DONE 128
 #define RAW_WEAK (RAW_TIMED | RAW_NEW | RAW_ENDED | RAW_DONE)
+#define RAW_UNDER_NEW (RAW_NEW | RAW_ENDED)
 
 /* One acquisition or release: the object in the low 24 bits and the mode above them, and where it happened. Of MODE_STATE it is the state that
    the thread is in from there on, instead of an object; until then it is in none. */
@@ -65,6 +66,7 @@ static inline uint32_t raw_what(uint32_t object, uint32_t mode) { return mode <<
 static inline uint32_t raw_object(uint32_t what) { return what & ((UINT32_C(1) << RAW_OBJECT_BITS) - 1); }
 static inline enum mode raw_plain(uint32_t mode) { return (enum mode)(mode & (RAW_IN_ORDER - 1)); }
 static inline enum mode raw_mode(uint32_t what) { return raw_plain(what >> RAW_OBJECT_BITS); }
+static inline int raw_is_new_itself(uint32_t added) { return (added & RAW_UNDER_NEW) == RAW_NEW; }
 static inline int raw_has(uint32_t what, uint32_t added) { return (what >> RAW_OBJECT_BITS & added) != 0; }
 
 /* An address as a module's number and an offset in its file, in 16 bits and 48; RAW_NOWHERE where it is in no module. */
