@@ -13,6 +13,9 @@ import org.objectweb.asm.Opcodes;
 final class Calls {
     static final String HOOKS = "java/lockdep/Hooks";
     static final String REFERENCES = "java/lockdep/References";
+    static final String HIDDEN = "java/lockdep/agent/Hidden";
+    static final String LOOKUP = "java/lang/invoke/MethodHandles$Lookup";
+    static final String OPTIONS = "[L" + LOOKUP + "$ClassOption;";
 
     private static final String LOCK = Hierarchy.LOCKS + "Lock";
     private static final String CONDITION = Hierarchy.LOCKS + "Condition";
@@ -45,6 +48,8 @@ final class Calls {
     /** Which of the words of its other method has flags. */
     private static final int FLAGS = 3;
     private static final Set<String> OF_RUNTIME = Set.of("halt(I)V");
+    private static final String WITH_DATA = "defineHiddenClassWithClassData([BLjava/lang/Object;Z" + OPTIONS + ")L" + LOOKUP + ";";
+    private static final Set<String> OF_LOOKUP = Set.of("defineHiddenClass([BZ" + OPTIONS + ")L" + LOOKUP + ";", WITH_DATA);
     private static final String MAKER = "newCondition()L" + CONDITION + ";";
     private static final Set<String> STAYING = Set.of("lock()V", "unlock()V", "tryLock()Z", MAKER, "start()V");
     private static final Words STARTERS = new Words(Set.of("java/lang/Runtime", "java/lang/ProcessBuilder"));
@@ -54,7 +59,7 @@ final class Calls {
     private static final Words NAMES;
 
     static {
-        for (Set<String> some : List.of(OF_LOCK, OF_CONDITION, OF_STAMPED, VIEWS.keySet(), WAITS, OF_THREAD, OF_RUNTIME)) {
+        for (Set<String> some : List.of(OF_LOCK, OF_CONDITION, OF_STAMPED, VIEWS.keySet(), WAITS, OF_THREAD, OF_RUNTIME, OF_LOOKUP)) {
             SIGNATURES.addAll(some);
         }
         Set<String> names = new HashSet<>(Set.of("start", "exec"));
@@ -173,6 +178,16 @@ final class Calls {
         if (descriptor.startsWith("()")) return owner;
         String object = descriptor.charAt(1) == 'L' ? descriptor.substring(2, descriptor.indexOf(';')) : "";
         return Hierarchy.LOCK.contains(object) ? object : null;
+    }
+
+    /** Whether a call defines a hidden class. */
+    static boolean definesHidden(Call call) {
+        return call.opcode == Opcodes.INVOKEVIRTUAL && call.owner.equals(LOOKUP) && OF_LOOKUP.contains(call.name + call.descriptor);
+    }
+
+    /** Whether such a call has a value for the class behind the class's bytes. */
+    static boolean hasData(Call call) {
+        return WITH_DATA.equals(call.name + call.descriptor);
     }
 
     /**

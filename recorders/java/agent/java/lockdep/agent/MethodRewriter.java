@@ -74,6 +74,8 @@ final class MethodRewriter {
 
     /** Returns whether anything in the method is changed. One that can't be is refused before any of it is written. */
     boolean rewrite() {
+        if (source.isHidden && isLockedByName())
+                throw new IllegalStateException("its method " + name + " locks a class that has no constant for itself");
         if (method.isSynchronized() && !new Frames(type, method, descriptor).keepThis())
                 throw new IllegalStateException("its method " + name + " changes `this`");
         isByItself = method.isSynchronized() && isToEnterByItself();
@@ -192,6 +194,7 @@ final class MethodRewriter {
         int depth = source.isOfJdk ? 0 : Calls.depthOfStart(call);
         if (depth == 2) call(before(at).put(Opcodes.DUP2).put(Opcodes.POP), Hook.STARTS);
         else if (depth == 1) call(before(at).put(Opcodes.DUP), Hook.STARTS);
+        if (Calls.definesHidden(call)) defineHidden(call, at);
         String receiver = Calls.receiver(call, wanted.hierarchy);
         if (receiver == null) return;
         isChanged = true;
@@ -206,6 +209,26 @@ final class MethodRewriter {
         String descriptorOfHook = "(L" + receiver + ";" + words + call.descriptor.substring(end);
         int called = constants.method(Calls.HOOKS, call.name, descriptorOfHook);
         code.instead(at).put(Opcodes.INVOKESTATIC).putShort(called);
+    }
+
+    /**
+     * The bytes of a hidden class that is about to be defined are rewritten, which are on the stack between the lookup and two or
+     * three more words: of three, the last two become one until then.
+     */
+    private void defineHidden(Calls.Call call, int at) {
+        boolean hasData = Calls.hasData(call);
+        Bytes added = before(at);
+        if (hasData) hidden(added, "both", "(Z[Ljava/lang/Object;)[Ljava/lang/Object;");
+        added.put(Opcodes.DUP2_X2).put(Opcodes.POP2).put(Opcodes.SWAP).put(Opcodes.DUP_X1);
+        hidden(added, "rewritten", "([BL" + Calls.LOOKUP + ";)[B").put(Opcodes.DUP2_X2).put(Opcodes.POP2);
+        if (!hasData) return;
+        hidden(added.put(Opcodes.DUP), "isInitialized", "([Ljava/lang/Object;)Z").put(Opcodes.SWAP);
+        hidden(added, "options", "([Ljava/lang/Object;)[Ljava/lang/Object;");
+        added.put(Opcodes.CHECKCAST).putShort(constants.type(Calls.OPTIONS));
+    }
+
+    private Bytes hidden(Bytes to, String called, String words) {
+        return to.put(Opcodes.INVOKESTATIC).putShort(constants.method(Calls.HIDDEN, called, words));
     }
 
     /** Adds what is to be known before a call that has no words but its object, and after it, for which that is kept on the stack. */
@@ -358,10 +381,15 @@ final class MethodRewriter {
         return isByItself ? owner(to).put(Opcodes.MONITOREXIT) : to;
     }
 
-    /** The object whose monitor the method takes. Before version 49 no constant is a class. */
+    /** Whether the method takes the monitor of its class in a file from before version 49, where no constant is a class. */
+    private boolean isLockedByName() {
+        return method.isSynchronized() && method.isStatic() && type.version < Opcodes.V1_5;
+    }
+
+    /** The object whose monitor the method takes. */
     private Bytes owner(Bytes to) {
         if (!method.isStatic()) return to.put(ALOAD_0);
-        if (type.version >= Opcodes.V1_5) return load(to, type.self);
+        if (!isLockedByName()) return load(to, type.self);
         return load(to, constants.string(type.name.replace('/', '.'))).put(Opcodes.INVOKESTATIC).putShort(
                 constants.method("java/lang/Class", "forName", "(Ljava/lang/String;)Ljava/lang/Class;"));
     }
