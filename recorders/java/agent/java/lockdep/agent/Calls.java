@@ -44,6 +44,11 @@ final class Calls {
         }
     }
 
+    /** Constructors of what is often a lock, to which there may be references. */
+    private static final Set<String> MAKERS = Set.of("java/lang/Object()V", "java/util/Vector()V", "java/util/Vector(Ljava/util/Collection;)V",
+            "java/util/Stack()V", "java/util/Hashtable()V", "java/util/Properties()V", Hierarchy.LOCKS + "ReentrantLock()V",
+            Hierarchy.LOCKS + "ReentrantLock(Z)V", Hierarchy.LOCKS + "ReentrantReadWriteLock()V",
+            Hierarchy.LOCKS + "ReentrantReadWriteLock(Z)V", STAMPED + "()V");
     private static final String METAFACTORY = "java/lang/invoke/LambdaMetafactory";
     /** Which of the words of its other method has flags. */
     private static final int FLAGS = 3;
@@ -97,12 +102,23 @@ final class Calls {
         return SIGNATURES.contains(type.nameOfMember(method).concat(type.descriptor(method)));
     }
 
-    /** Whether a handle of a class's constants is one to a call that is replaced. */
+    /** Whether a handle of a class's constants is one to a call that is replaced, or to a constructor of a lock. */
     static boolean mayBeReference(ClassFile type, int handle) {
         int kind = type.kindOfHandle(handle);
-        if (kind != Opcodes.H_INVOKEVIRTUAL && kind != Opcodes.H_INVOKEINTERFACE) return false;
         int method = type.part(handle, 2);
+        if (isMaker(type, handle)) return MAKERS.contains(type.owner(method).concat(type.descriptor(method)));
+        if (kind != Opcodes.H_INVOKEVIRTUAL && kind != Opcodes.H_INVOKEINTERFACE) return false;
         return isOfLock(type.owner(method), type.nameOfMember(method), type.descriptor(method));
+    }
+
+    /** The method of References that makes an object of a class. */
+    static String nameOfMaker(String owner) {
+        return "new" + owner.substring(owner.lastIndexOf('/') + 1);
+    }
+
+    /** Whether a handle is one to a constructor. */
+    static boolean isMaker(ClassFile type, int handle) {
+        return type.kindOfHandle(handle) == Opcodes.H_NEWINVOKESPECIAL;
     }
 
     /**

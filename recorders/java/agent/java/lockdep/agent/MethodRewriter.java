@@ -93,9 +93,21 @@ final class MethodRewriter {
             int opcode = type.opcode(at);
             boolean isCall = opcode == Opcodes.INVOKEVIRTUAL || opcode == Opcodes.INVOKEINTERFACE;
             if (opcode < Opcodes.INVOKEVIRTUAL || opcode > Opcodes.INVOKEDYNAMIC || !wanted.matters(type.number(at + 1))) continue;
-            if (opcode == Opcodes.INVOKEDYNAMIC || isCall && Calls.isRelease(type.nameOfMember(type.number(at + 1)))) return true;
+            if (opcode == Opcodes.INVOKEDYNAMIC && hasReferenceToRelease(type.number(at + 1))) return true;
+            if (isCall && Calls.isRelease(type.nameOfMember(type.number(at + 1)))) return true;
         }
         return false;
+    }
+
+    private boolean hasReferenceToRelease(int dynamicCall) {
+        int bootstrap = type.bootstrap(type.part(dynamicCall, 1));
+        boolean hasFound = false;
+        for (int word = 0; word < type.number(bootstrap + 2); word++) {
+            int handle = type.number(bootstrap + 4 + 2 * word);
+            boolean isReference = type.kind(handle) == ClassFile.HANDLE && Calls.mayBeReference(type, handle);
+            hasFound |= isReference && Calls.isRelease(type.nameOfMember(type.part(handle, 2)));
+        }
+        return hasFound;
     }
 
     private void passAll() {
@@ -254,8 +266,8 @@ final class MethodRewriter {
     }
 
     /**
-     * References to methods of locks, such as `lock::unlock`, become references to what is called instead, which gets their
-     * place first.
+     * References to methods of locks, such as `lock::unlock`, or to their constructors become references to what is called
+     * instead, which gets their place first.
      */
     private void rewriteReferences(int at) {
         int call = type.number(at + 1);
@@ -265,17 +277,33 @@ final class MethodRewriter {
         for (int word = 0; word < type.number(bootstrap + 2); word++) {
             int handle = type.number(bootstrap + 4 + 2 * word);
             if (type.kind(handle) != ClassFile.HANDLE || !Calls.mayBeReference(type, handle)) continue;
-            int called = type.part(handle, 2);
-            String object = Calls.objectOf(made, type.owner(called));
-            if (object == null) continue;
-            String words = "(IL" + object + ";" + type.descriptor(called).substring(1);
-            int instead = constants.handle(constants.method(Calls.REFERENCES, type.nameOfMember(called), words));
-            Bytes added = site(before(at));
+            int instead = Calls.isMaker(type, handle) ? maker(made, handle) : caller(made, handle);
+            if (instead == 0) continue;
+            int site = Calls.isMaker(type, handle) ? siteOfMade(-1) : Site.add(source, name, where(), 1);
+            Bytes added = number(before(at), site);
             if (!made.startsWith("()")) added.put(Opcodes.SWAP);
             int changed = constants.dynamicCall(call, "(I" + made.substring(1), word, instead);
             code.instead(at).put(Opcodes.INVOKEDYNAMIC).putShort(changed).putShort(0);
             return;
         }
+    }
+
+    /** What is called instead of a method of a lock; 0 if that isn't one of References. */
+    private int caller(String made, int handle) {
+        int called = type.part(handle, 2);
+        String object = Calls.objectOf(made, type.owner(called));
+        if (object == null) return 0;
+        String words = "(IL" + object + ";" + type.descriptor(called).substring(1);
+        return constants.handle(constants.method(Calls.REFERENCES, type.nameOfMember(called), words));
+    }
+
+    /** What is called instead of a constructor; 0 if a word of its call is already known. */
+    private int maker(String made, int handle) {
+        if (!made.startsWith("()")) return 0;
+        int constructor = type.part(handle, 2);
+        String owner = type.owner(constructor);
+        String words = type.descriptor(constructor).substring(1).replace(")V", ")L" + owner + ";");
+        return constants.handle(constants.method(Calls.REFERENCES, Calls.nameOfMaker(owner), "(I" + words));
     }
 
     // ---- Objects that are made.
@@ -325,13 +353,16 @@ final class MethodRewriter {
 
     /** The object on the stack was made on this line. */
     private void noteMade(int at, int next, int constructor) {
+        call(number(behind(next).put(Opcodes.DUP), siteOfMade(constructor)), Hook.MADE);
+    }
+
+    private int siteOfMade(int constructor) {
         int ordinal = line > 0 ? madeOnLine.getOrDefault(line, 0) + 1 : 1;
-        int site = Site.add(source, name, where(), ordinal);
         if (line > 0) {
             madeOnLine.put(line, ordinal);
             noted.add(new Noted(line, ordinal, constructor));
         }
-        call(number(behind(next).put(Opcodes.DUP), site), Hook.MADE);
+        return Site.add(source, name, where(), ordinal);
     }
 
     /** A constructor looks for its caller if it isn't told where it is called, and that costs much. */
