@@ -82,6 +82,8 @@ final class MethodRewriter {
         passAll();
         if (hasMonitor && (hasNew || method.isConstructor) && new Unmade(type, method).mayBeLocked())
                 throw new IllegalStateException("its method " + name + " locks an object that isn't made yet");
+        if (hasMonitor && new Balance(type, method).endsWithMonitor())
+                throw new IllegalStateException("its method " + name + " may end with a monitor held");
         if (method.isSynchronized()) wrap();
         if (isChanged) written = code.write();
         return isChanged;
