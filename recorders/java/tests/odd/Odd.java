@@ -275,6 +275,29 @@ public final class Odd implements Opcodes {
         to.visitInsn(RETURN);
     }
 
+    private static void enter(MethodVisitor to, String name) {
+        to.visitFieldInsn(GETSTATIC, "java/lang/System", name, "Ljava/io/PrintStream;");
+        to.visitInsn(MONITORENTER);
+    }
+
+    /** A method ends with a monitor held, by a return behind a switch. */
+    private static void returnHolding(MethodVisitor to) {
+        Label[] ways = {new Label(), new Label()};
+        enter(to, "out");
+        to.visitInsn(ICONST_1);
+        to.visitLookupSwitchInsn(ways[0], new int[] {1}, new Label[] {ways[1]});
+        to.visitLabel(ways[0]);
+        to.visitFieldInsn(GETSTATIC, "java/lang/System", "out", "Ljava/io/PrintStream;");
+        all(to, MONITOREXIT, RETURN);
+        to.visitLabel(ways[1]);
+        to.visitInsn(RETURN);
+    }
+
+    private static void throwHolding(MethodVisitor to) {
+        enter(to, "err");
+        all(to, ACONST_NULL, ATHROW);
+    }
+
     /** A monitor is taken among the arguments of a constructor, of an object that is made. */
     private static void lockInside(MethodVisitor to) {
         to.visitTypeInsn(NEW, LOCK);
@@ -368,6 +391,8 @@ public final class Odd implements Opcodes {
         make("Twice", V17, true, Odd::twoWaysToThis, Odd::constructTwice);
         make("Backwards", V17, true, Odd::lockBackwards, Odd::switchInside);
         make("Missing", V17, true, Odd::plain, Odd::callMissing);
+        make("Returns", V17, true, Odd::plain, Odd::returnHolding);
+        make("Throws", V17, true, Odd::plain, Odd::throwHolding);
         makeCallOfItsOwn();
         makeFull();
     }

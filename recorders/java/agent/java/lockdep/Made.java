@@ -72,8 +72,7 @@ final class Made {
         String name = type.getName();
         int lambda = name.indexOf("$$Lambda");
         if (lambda >= 0) return name.substring(0, lambda + "$$Lambda".length());
-        int hidden = name.indexOf('/');
-        return hidden < 0 ? name : name.substring(0, hidden);
+        return Source.nameInFile(name);
     }
 
     synchronized boolean hasEarly() {

@@ -21,7 +21,7 @@ public final class OnLine {
     }
 
     private static OnLine of(String className, String method, String descriptor, int line) {
-        String key = className + "." + method + descriptor + ":" + line;
+        String key = Source.nameInFile(className) + "." + method + descriptor + ":" + line;
         OnLine found = all.get(key);
         if (found != null) return found;
         OnLine added = new OnLine();

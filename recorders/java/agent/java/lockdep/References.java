@@ -1,13 +1,19 @@
 package java.lockdep;
 
+import java.util.Collection;
+import java.util.Hashtable;
+import java.util.Properties;
+import java.util.Stack;
+import java.util.Vector;
 import java.util.concurrent.TimeUnit;
 import java.util.concurrent.locks.Lock;
 import java.util.concurrent.locks.ReentrantLock;
 import java.util.concurrent.locks.ReentrantReadWriteLock;
+import java.util.concurrent.locks.StampedLock;
 
 /**
- * What references to methods of locks become, such as `lock::unlock`: they need an object of exactly the same class. The
- * first word is the place of the reference.
+ * What references to methods of locks become, such as `lock::unlock`, and to constructors of what is locked, such as
+ * `ReentrantLock::new`: they need an object of exactly the same class. The first word is the place of the reference.
  */
 public final class References {
     private References() {
@@ -97,5 +103,56 @@ public final class References {
     public static void unlock(int site, ReentrantReadWriteLock.WriteLock lock) {
         Hooks.unlocks(lock, site);
         lock.unlock();
+    }
+
+    // ---- References to constructors.
+
+    private static <T> T noted(T made, int site) {
+        Hooks.made(made, site);
+        return made;
+    }
+
+    public static Object newObject(int site) {
+        return noted(new Object(), site);
+    }
+
+    public static Vector<?> newVector(int site) {
+        return noted(new Vector<>(), site);
+    }
+
+    public static Vector<?> newVector(int site, Collection<?> of) {
+        return noted(new Vector<>(of), site);
+    }
+
+    public static Stack<?> newStack(int site) {
+        return noted(new Stack<>(), site);
+    }
+
+    public static Hashtable<?, ?> newHashtable(int site) {
+        return noted(new Hashtable<>(), site);
+    }
+
+    public static Properties newProperties(int site) {
+        return noted(new Properties(), site);
+    }
+
+    public static ReentrantLock newReentrantLock(int site) {
+        return noted(new ReentrantLock(), site);
+    }
+
+    public static ReentrantLock newReentrantLock(int site, boolean isFair) {
+        return noted(new ReentrantLock(isFair), site);
+    }
+
+    public static ReentrantReadWriteLock newReentrantReadWriteLock(int site) {
+        return noted(new ReentrantReadWriteLock(), site);
+    }
+
+    public static ReentrantReadWriteLock newReentrantReadWriteLock(int site, boolean isFair) {
+        return noted(new ReentrantReadWriteLock(isFair), site);
+    }
+
+    public static StampedLock newStampedLock(int site) {
+        return noted(new StampedLock(), site);
     }
 }

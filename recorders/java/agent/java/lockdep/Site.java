@@ -16,12 +16,14 @@ public final class Site {
     private static final String THREAD = "thread:";
     /** On the stack of a constructor that looks for its caller. */
     private static final int FRAMES_OF_RECORDER = 2;
-    private static final StackWalker walker = StackWalker.getInstance(Set.of(StackWalker.Option.RETAIN_CLASS_REFERENCE,
+    private static volatile StackWalker walker = StackWalker.getInstance(Set.of(StackWalker.Option.RETAIN_CLASS_REFERENCE,
             StackWalker.Option.SHOW_REFLECT_FRAMES));
 
     /** The same for who doesn't look far. */
-    private static final StackWalker near = StackWalker.getInstance(Set.of(StackWalker.Option.RETAIN_CLASS_REFERENCE,
+    private static volatile StackWalker near = StackWalker.getInstance(Set.of(StackWalker.Option.RETAIN_CLASS_REFERENCE,
             StackWalker.Option.SHOW_REFLECT_FRAMES), FRAMES_OF_RECORDER + 3);
+    /** Whether they also show the frames of hidden classes, among which are those of references and of handles to methods. */
+    private static volatile boolean isHiddenShown;
 
     private static volatile Site[] all = new Site[1024];
     private static int count;
@@ -78,12 +80,29 @@ public final class Site {
         of(number).call.at = at;
     }
 
-    /** Whether an object whose constructor runs is what is made here. */
+    /** The program has hidden classes of its own, which may make locks. */
+    public static synchronized void showHidden() {
+        if (isHiddenShown) return;
+        Set<StackWalker.Option> all = Set.of(StackWalker.Option.RETAIN_CLASS_REFERENCE, StackWalker.Option.SHOW_HIDDEN_FRAMES);
+        isHiddenShown = true;
+        walker = StackWalker.getInstance(all);
+        near = StackWalker.getInstance(all, FRAMES_OF_RECORDER + 3);
+    }
+
+    /** Whether a frame is one of a reference or of a handle, between a call and what is called. */
+    private static boolean isBetween(StackWalker.StackFrame frame) {
+        if (!isHiddenShown) return false;
+        String name = frame.getClassName();
+        boolean isHidden = name.indexOf('/') >= 0;
+        return isHidden && name.contains("$$Lambda") || name.startsWith("java.lang.invoke.") && (isHidden || name.endsWith("$Holder"));
+    }
+
+    /** Whether an object whose constructor runs is what is made here. A hidden class knows itself by the name in its file. */
     boolean makes(Object object) {
         String name = object.getClass().getName();
         boolean isSame = name.equals(call.made);
         if (isSame) call.made = name; // so that they are one text from here on
-        return isSame;
+        return isSame || source.isHidden && Source.nameInFile(name).equals(call.made);
     }
 
     private static synchronized int add(Site site) {
@@ -105,7 +124,7 @@ public final class Site {
     /** This place with the program's own line that led there. */
     static int withCaller(int number) {
         Site site = of(number);
-        String caller = walker.walk(frames -> frames.filter(frame -> isOfProgram(frame.getDeclaringClass())).findFirst()
+        String caller = walker.walk(frames -> frames.filter(frame -> isOfProgram(frame.getDeclaringClass()) && !isBetween(frame)).findFirst()
                 .map(frame -> place(frame)).orElse(""));
         return add(new Site(site.source, site.method, site.line, site.ordinal, "\t" + caller, null));
     }
@@ -140,7 +159,7 @@ public final class Site {
 
     /** The callers of the running thread, the innermost first, without those of the recorder. */
     static String[] stack(int most) {
-        return walker.walk(frames -> frames.filter(frame -> !frame.getClassName().startsWith("java.lockdep."))
+        return walker.walk(frames -> frames.filter(frame -> !frame.getClassName().startsWith("java.lockdep.") && !isBetween(frame))
                 .limit(most).map(frame -> place(frame)).toArray(String[]::new));
     }
 
@@ -242,7 +261,7 @@ public final class Site {
 
         @Override
         public void accept(StackWalker.StackFrame frame) {
-            if (left-- > 0 || isConstructor(frame, object)) return;
+            if (left-- > 0 || isConstructor(frame, object) || isBetween(frame)) return;
             isFound = true;
             made = isOfProgram(frame.getDeclaringClass()) ? madeBy(frame) : null;
         }
@@ -272,7 +291,7 @@ public final class Site {
     private static String nameOf(StackWalker.StackFrame frame) {
         int line = frame.getLineNumber();
         String where = line > 0 ? line + suffix(OnLine.ordinalOf(frame)) : "+" + OnLine.placeOf(frame);
-        return frame.getClassName() + "." + frame.getMethodName() + ":" + where;
+        return Source.nameInFile(frame.getClassName()) + "." + frame.getMethodName() + ":" + where;
     }
 
     static String placeOfClass(String className) {

@@ -20,33 +20,43 @@ public final class Source {
 
     public final String className;
     public final boolean isOfJdk;
+    public final boolean isHidden;
     private final String fileName;
     private final String location;
     private final int firstLine;
     private String path;
 
-    private Source(String className, String fileName, String location, int firstLine, boolean isOfJdk) {
+    private Source(String className, String fileName, String location, int firstLine, boolean isOfJdk, boolean isHidden) {
         this.className = className;
         this.fileName = fileName;
         this.location = location;
         this.firstLine = firstLine;
         this.isOfJdk = isOfJdk;
+        this.isHidden = isHidden;
     }
 
     /**
      * A class that is rewritten: its name with dots, its file's name, and the folder or jar that it was loaded from, or
-     * null.
+     * null. A hidden one may have the name of another class, or of many.
      */
-    public static Source add(String className, String fileName, String location, int firstLine, boolean isOfJdk) {
+    public static Source add(String className, String fileName, String location, int firstLine, boolean isOfJdk, boolean isHidden) {
         Source source = new Source(className, fileName == null ? outermost(className) + ".java" : fileName, location,
-                firstLine, isOfJdk);
-        all.put(className, source);
+                firstLine, isOfJdk, isHidden);
+        if (isHidden) all.putIfAbsent(className, source);
+        else all.put(className, source);
         return source;
     }
 
-    static Source of(String className) {
+    static Source of(String name) {
+        String className = nameInFile(name);
         Source found = all.get(className);
-        return found != null ? found : new Source(className, outermost(className) + ".java", null, 0, true);
+        return found != null ? found : new Source(className, outermost(className) + ".java", null, 0, true, false);
+    }
+
+    /** The name of a class without what the JVM adds to that of a hidden one, which is another number in each run. */
+    static String nameInFile(String className) {
+        int hidden = className.indexOf('/');
+        return hidden < 0 ? className : className.substring(0, hidden);
     }
 
     private static String outermost(String className) {

@@ -40,6 +40,7 @@ public final class Agent {
             Provoke.begin(System.getenv("LOCKDEP_PROVOKE_TABLE"), plan, System.getenv("LOCKDEP_PROVOKE_PAUSE"));
             Recording.beginUnwritten(words("LOCKDEP_JAVA_SOURCES", File.pathSeparator));
         }
+        Hidden.begin(rewriter);
         machine.addTransformer(rewriter, true);
         rewriteLoaded(rewriter, machine);
     }

@@ -13,6 +13,9 @@ import org.objectweb.asm.Opcodes;
 final class Calls {
     static final String HOOKS = "java/lockdep/Hooks";
     static final String REFERENCES = "java/lockdep/References";
+    static final String HIDDEN = "java/lockdep/agent/Hidden";
+    static final String LOOKUP = "java/lang/invoke/MethodHandles$Lookup";
+    static final String OPTIONS = "[L" + LOOKUP + "$ClassOption;";
 
     private static final String LOCK = Hierarchy.LOCKS + "Lock";
     private static final String CONDITION = Hierarchy.LOCKS + "Condition";
@@ -41,10 +44,17 @@ final class Calls {
         }
     }
 
+    /** Constructors of what is often a lock, to which there may be references. */
+    private static final Set<String> MAKERS = Set.of("java/lang/Object()V", "java/util/Vector()V", "java/util/Vector(Ljava/util/Collection;)V",
+            "java/util/Stack()V", "java/util/Hashtable()V", "java/util/Properties()V", Hierarchy.LOCKS + "ReentrantLock()V",
+            Hierarchy.LOCKS + "ReentrantLock(Z)V", Hierarchy.LOCKS + "ReentrantReadWriteLock()V",
+            Hierarchy.LOCKS + "ReentrantReadWriteLock(Z)V", STAMPED + "()V");
     private static final String METAFACTORY = "java/lang/invoke/LambdaMetafactory";
     /** Which of the words of its other method has flags. */
     private static final int FLAGS = 3;
     private static final Set<String> OF_RUNTIME = Set.of("halt(I)V");
+    private static final String WITH_DATA = "defineHiddenClassWithClassData([BLjava/lang/Object;Z" + OPTIONS + ")L" + LOOKUP + ";";
+    private static final Set<String> OF_LOOKUP = Set.of("defineHiddenClass([BZ" + OPTIONS + ")L" + LOOKUP + ";", WITH_DATA);
     private static final String MAKER = "newCondition()L" + CONDITION + ";";
     private static final Set<String> STAYING = Set.of("lock()V", "unlock()V", "tryLock()Z", MAKER, "start()V");
     private static final Words STARTERS = new Words(Set.of("java/lang/Runtime", "java/lang/ProcessBuilder"));
@@ -54,7 +64,7 @@ final class Calls {
     private static final Words NAMES;
 
     static {
-        for (Set<String> some : List.of(OF_LOCK, OF_CONDITION, OF_STAMPED, VIEWS.keySet(), WAITS, OF_THREAD, OF_RUNTIME)) {
+        for (Set<String> some : List.of(OF_LOCK, OF_CONDITION, OF_STAMPED, VIEWS.keySet(), WAITS, OF_THREAD, OF_RUNTIME, OF_LOOKUP)) {
             SIGNATURES.addAll(some);
         }
         Set<String> names = new HashSet<>(Set.of("start", "exec"));
@@ -92,12 +102,23 @@ final class Calls {
         return SIGNATURES.contains(type.nameOfMember(method).concat(type.descriptor(method)));
     }
 
-    /** Whether a handle of a class's constants is one to a call that is replaced. */
+    /** Whether a handle of a class's constants is one to a call that is replaced, or to a constructor of a lock. */
     static boolean mayBeReference(ClassFile type, int handle) {
         int kind = type.kindOfHandle(handle);
-        if (kind != Opcodes.H_INVOKEVIRTUAL && kind != Opcodes.H_INVOKEINTERFACE) return false;
         int method = type.part(handle, 2);
+        if (isMaker(type, handle)) return MAKERS.contains(type.owner(method).concat(type.descriptor(method)));
+        if (kind != Opcodes.H_INVOKEVIRTUAL && kind != Opcodes.H_INVOKEINTERFACE) return false;
         return isOfLock(type.owner(method), type.nameOfMember(method), type.descriptor(method));
+    }
+
+    /** The method of References that makes an object of a class. */
+    static String nameOfMaker(String owner) {
+        return "new" + owner.substring(owner.lastIndexOf('/') + 1);
+    }
+
+    /** Whether a handle is one to a constructor. */
+    static boolean isMaker(ClassFile type, int handle) {
+        return type.kindOfHandle(handle) == Opcodes.H_NEWINVOKESPECIAL;
     }
 
     /**
@@ -173,6 +194,16 @@ final class Calls {
         if (descriptor.startsWith("()")) return owner;
         String object = descriptor.charAt(1) == 'L' ? descriptor.substring(2, descriptor.indexOf(';')) : "";
         return Hierarchy.LOCK.contains(object) ? object : null;
+    }
+
+    /** Whether a call defines a hidden class. */
+    static boolean definesHidden(Call call) {
+        return call.opcode == Opcodes.INVOKEVIRTUAL && call.owner.equals(LOOKUP) && OF_LOOKUP.contains(call.name + call.descriptor);
+    }
+
+    /** Whether such a call has a value for the class behind the class's bytes. */
+    static boolean hasData(Call call) {
+        return WITH_DATA.equals(call.name + call.descriptor);
     }
 
     /**

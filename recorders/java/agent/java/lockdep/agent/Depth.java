@@ -44,7 +44,7 @@ final class Depth {
             if (known != null) depth = known;
             depth = depth < 0 ? -1 : depthAfter(at, words, depth);
             if (depth < 0) return false;
-            if (isEnd(type.opcode(at))) depth = targets.getOrDefault(type.after(at, method), -1);
+            if (Jumps.isEnd(type.opcode(at))) depth = targets.getOrDefault(type.after(at, method), -1);
         }
         return depth == words + wordsOf(type.descriptor(type.number(call + 1)));
     }
@@ -54,37 +54,17 @@ final class Depth {
         int left = depth - taken(at);
         if (left < words || isReturnOfSubroutine(at)) return -1;
         int after = left + put(at);
-        return isJump(type.opcode(at)) && !notes(at, after) ? -1 : after;
-    }
-
-    private static boolean isEnd(int opcode) {
-        return opcode >= Opcodes.GOTO && opcode <= Opcodes.RETURN || opcode == Opcodes.ATHROW || opcode == ClassFile.GOTO_W
-                || opcode == ClassFile.JSR_W;
+        return notes(at, after) ? after : -1;
     }
 
     private boolean isReturnOfSubroutine(int at) {
         return type.opcode(type.opcode(at) == ClassFile.WIDE ? at + 1 : at) == Opcodes.RET;
     }
 
-    private static boolean isJump(int opcode) {
-        return opcode >= Opcodes.IFEQ && opcode <= Opcodes.LOOKUPSWITCH || opcode == Opcodes.IFNULL
-                || opcode == Opcodes.IFNONNULL || opcode == ClassFile.GOTO_W || opcode == ClassFile.JSR_W;
-    }
-
     /** Notes how deep the stack is where an instruction jumps to. Returns whether all of that is on the way. */
     private boolean notes(int at, int depth) {
-        int opcode = type.opcode(at);
-        if (opcode == Opcodes.TABLESWITCH || opcode == Opcodes.LOOKUPSWITCH) return notesSwitch(at, depth);
-        boolean isFar = opcode == ClassFile.GOTO_W || opcode == ClassFile.JSR_W;
-        return note(at + (isFar ? type.longNumber(at + 1) : (short) type.number(at + 1)), depth);
-    }
-
-    private boolean notesSwitch(int at, int depth) {
-        int word = at + 4 - (at - method.start & 3);
-        boolean isTable = type.opcode(at) == Opcodes.TABLESWITCH;
-        boolean areNoted = note(at + type.longNumber(word), depth);
-        int next = type.after(at, method);
-        for (int each = word + 12; each < next; each += isTable ? 4 : 8) areNoted &= note(at + type.longNumber(each), depth);
+        boolean areNoted = true;
+        for (int target : Jumps.targets(type, method, at)) areNoted &= note(target, depth);
         return areNoted;
     }
 

@@ -38,6 +38,9 @@ final class Hierarchy implements AutoCloseable {
     /** The same once it was opened: one of these. */
     private File folder;
     private Jar jar;
+    /** The class that asks, if it is hidden. */
+    private String hiddenName;
+    private Facts hidden;
 
     Hierarchy(ClassLoader loader, String location) {
         this.loader = loader;
@@ -64,9 +67,15 @@ final class Hierarchy implements AutoCloseable {
         }
     }
 
-    /** A class is being loaded. */
-    void add(ClassFile type, Locking locking) {
-        known.classes.put(type.name, new Facts(type, locking));
+    /** A class is being loaded. No other class finds a hidden one by its name, which another one may have too. */
+    void add(ClassFile type, Locking locking, boolean isHidden) {
+        Facts facts = new Facts(type, locking);
+        if (isHidden) {
+            hiddenName = type.name;
+            hidden = facts;
+            return;
+        }
+        known.classes.put(type.name, facts);
         known.missing.remove(type.name);
     }
 
@@ -107,7 +116,8 @@ final class Hierarchy implements AutoCloseable {
     boolean isOfItself(String name) {
         String above = name;
         for (int most = MOST_ABOVE; most > 0 && above != null && !above.startsWith("java/"); most--) {
-            if (above.endsWith("Exception") || above.endsWith("Error") || known.missing.contains(above)) return false;
+            boolean isMissing = known.missing.contains(above) && !above.equals(hiddenName);
+            if (above.endsWith("Exception") || above.endsWith("Error") || isMissing) return false;
             Facts facts = facts(above, false);
             if (facts == null) known.missing.add(above);
             if (facts == null || facts.isOfItself) return facts != null;
@@ -145,6 +155,7 @@ final class Hierarchy implements AutoCloseable {
     }
 
     private Facts facts(String name, boolean isFarLookedFor) {
+        if (name.equals(hiddenName)) return hidden;
         Facts found = known.classes.get(name);
         if (found != null) return found;
         ClassFile type = read(name + ".class", isFarLookedFor);

@@ -74,12 +74,16 @@ final class MethodRewriter {
 
     /** Returns whether anything in the method is changed. One that can't be is refused before any of it is written. */
     boolean rewrite() {
+        if (source.isHidden && isLockedByName())
+                throw new IllegalStateException("its method " + name + " locks a class that has no constant for itself");
         if (method.isSynchronized() && !new Frames(type, method, descriptor).keepThis())
                 throw new IllegalStateException("its method " + name + " changes `this`");
         isByItself = method.isSynchronized() && isToEnterByItself();
         passAll();
         if (hasMonitor && (hasNew || method.isConstructor) && new Unmade(type, method).mayBeLocked())
                 throw new IllegalStateException("its method " + name + " locks an object that isn't made yet");
+        if (hasMonitor && new Balance(type, method).endsWithMonitor())
+                throw new IllegalStateException("its method " + name + " may end with a monitor held");
         if (method.isSynchronized()) wrap();
         if (isChanged) written = code.write();
         return isChanged;
@@ -91,9 +95,21 @@ final class MethodRewriter {
             int opcode = type.opcode(at);
             boolean isCall = opcode == Opcodes.INVOKEVIRTUAL || opcode == Opcodes.INVOKEINTERFACE;
             if (opcode < Opcodes.INVOKEVIRTUAL || opcode > Opcodes.INVOKEDYNAMIC || !wanted.matters(type.number(at + 1))) continue;
-            if (opcode == Opcodes.INVOKEDYNAMIC || isCall && Calls.isRelease(type.nameOfMember(type.number(at + 1)))) return true;
+            if (opcode == Opcodes.INVOKEDYNAMIC && hasReferenceToRelease(type.number(at + 1))) return true;
+            if (isCall && Calls.isRelease(type.nameOfMember(type.number(at + 1)))) return true;
         }
         return false;
+    }
+
+    private boolean hasReferenceToRelease(int dynamicCall) {
+        int bootstrap = type.bootstrap(type.part(dynamicCall, 1));
+        boolean hasFound = false;
+        for (int word = 0; word < type.number(bootstrap + 2); word++) {
+            int handle = type.number(bootstrap + 4 + 2 * word);
+            boolean isReference = type.kind(handle) == ClassFile.HANDLE && Calls.mayBeReference(type, handle);
+            hasFound |= isReference && Calls.isRelease(type.nameOfMember(type.part(handle, 2)));
+        }
+        return hasFound;
     }
 
     private void passAll() {
@@ -192,6 +208,7 @@ final class MethodRewriter {
         int depth = source.isOfJdk ? 0 : Calls.depthOfStart(call);
         if (depth == 2) call(before(at).put(Opcodes.DUP2).put(Opcodes.POP), Hook.STARTS);
         else if (depth == 1) call(before(at).put(Opcodes.DUP), Hook.STARTS);
+        if (Calls.definesHidden(call)) defineHidden(call, at);
         String receiver = Calls.receiver(call, wanted.hierarchy);
         if (receiver == null) return;
         isChanged = true;
@@ -206,6 +223,26 @@ final class MethodRewriter {
         String descriptorOfHook = "(L" + receiver + ";" + words + call.descriptor.substring(end);
         int called = constants.method(Calls.HOOKS, call.name, descriptorOfHook);
         code.instead(at).put(Opcodes.INVOKESTATIC).putShort(called);
+    }
+
+    /**
+     * The bytes of a hidden class that is about to be defined are rewritten, which are on the stack between the lookup and two or
+     * three more words: of three, the last two become one until then.
+     */
+    private void defineHidden(Calls.Call call, int at) {
+        boolean hasData = Calls.hasData(call);
+        Bytes added = before(at);
+        if (hasData) hidden(added, "both", "(Z[Ljava/lang/Object;)[Ljava/lang/Object;");
+        added.put(Opcodes.DUP2_X2).put(Opcodes.POP2).put(Opcodes.SWAP).put(Opcodes.DUP_X1);
+        hidden(added, "rewritten", "([BL" + Calls.LOOKUP + ";)[B").put(Opcodes.DUP2_X2).put(Opcodes.POP2);
+        if (!hasData) return;
+        hidden(added.put(Opcodes.DUP), "isInitialized", "([Ljava/lang/Object;)Z").put(Opcodes.SWAP);
+        hidden(added, "options", "([Ljava/lang/Object;)[Ljava/lang/Object;");
+        added.put(Opcodes.CHECKCAST).putShort(constants.type(Calls.OPTIONS));
+    }
+
+    private Bytes hidden(Bytes to, String called, String words) {
+        return to.put(Opcodes.INVOKESTATIC).putShort(constants.method(Calls.HIDDEN, called, words));
     }
 
     /** Adds what is to be known before a call that has no words but its object, and after it, for which that is kept on the stack. */
@@ -231,8 +268,8 @@ final class MethodRewriter {
     }
 
     /**
-     * References to methods of locks, such as `lock::unlock`, become references to what is called instead, which gets their
-     * place first.
+     * References to methods of locks, such as `lock::unlock`, or to their constructors become references to what is called
+     * instead, which gets their place first.
      */
     private void rewriteReferences(int at) {
         int call = type.number(at + 1);
@@ -242,17 +279,33 @@ final class MethodRewriter {
         for (int word = 0; word < type.number(bootstrap + 2); word++) {
             int handle = type.number(bootstrap + 4 + 2 * word);
             if (type.kind(handle) != ClassFile.HANDLE || !Calls.mayBeReference(type, handle)) continue;
-            int called = type.part(handle, 2);
-            String object = Calls.objectOf(made, type.owner(called));
-            if (object == null) continue;
-            String words = "(IL" + object + ";" + type.descriptor(called).substring(1);
-            int instead = constants.handle(constants.method(Calls.REFERENCES, type.nameOfMember(called), words));
-            Bytes added = site(before(at));
+            int instead = Calls.isMaker(type, handle) ? maker(made, handle) : caller(made, handle);
+            if (instead == 0) continue;
+            int site = Calls.isMaker(type, handle) ? siteOfMade(-1) : Site.add(source, name, where(), 1);
+            Bytes added = number(before(at), site);
             if (!made.startsWith("()")) added.put(Opcodes.SWAP);
             int changed = constants.dynamicCall(call, "(I" + made.substring(1), word, instead);
             code.instead(at).put(Opcodes.INVOKEDYNAMIC).putShort(changed).putShort(0);
             return;
         }
+    }
+
+    /** What is called instead of a method of a lock; 0 if that isn't one of References. */
+    private int caller(String made, int handle) {
+        int called = type.part(handle, 2);
+        String object = Calls.objectOf(made, type.owner(called));
+        if (object == null) return 0;
+        String words = "(IL" + object + ";" + type.descriptor(called).substring(1);
+        return constants.handle(constants.method(Calls.REFERENCES, type.nameOfMember(called), words));
+    }
+
+    /** What is called instead of a constructor; 0 if a word of its call is already known. */
+    private int maker(String made, int handle) {
+        if (!made.startsWith("()")) return 0;
+        int constructor = type.part(handle, 2);
+        String owner = type.owner(constructor);
+        String words = type.descriptor(constructor).substring(1).replace(")V", ")L" + owner + ";");
+        return constants.handle(constants.method(Calls.REFERENCES, Calls.nameOfMaker(owner), "(I" + words));
     }
 
     // ---- Objects that are made.
@@ -302,13 +355,16 @@ final class MethodRewriter {
 
     /** The object on the stack was made on this line. */
     private void noteMade(int at, int next, int constructor) {
+        call(number(behind(next).put(Opcodes.DUP), siteOfMade(constructor)), Hook.MADE);
+    }
+
+    private int siteOfMade(int constructor) {
         int ordinal = line > 0 ? madeOnLine.getOrDefault(line, 0) + 1 : 1;
-        int site = Site.add(source, name, where(), ordinal);
         if (line > 0) {
             madeOnLine.put(line, ordinal);
             noted.add(new Noted(line, ordinal, constructor));
         }
-        call(number(behind(next).put(Opcodes.DUP), site), Hook.MADE);
+        return Site.add(source, name, where(), ordinal);
     }
 
     /** A constructor looks for its caller if it isn't told where it is called, and that costs much. */
@@ -358,10 +414,15 @@ final class MethodRewriter {
         return isByItself ? owner(to).put(Opcodes.MONITOREXIT) : to;
     }
 
-    /** The object whose monitor the method takes. Before version 49 no constant is a class. */
+    /** Whether the method takes the monitor of its class in a file from before version 49, where no constant is a class. */
+    private boolean isLockedByName() {
+        return method.isSynchronized() && method.isStatic() && type.version < Opcodes.V1_5;
+    }
+
+    /** The object whose monitor the method takes. */
     private Bytes owner(Bytes to) {
         if (!method.isStatic()) return to.put(ALOAD_0);
-        if (type.version >= Opcodes.V1_5) return load(to, type.self);
+        if (!isLockedByName()) return load(to, type.self);
         return load(to, constants.string(type.name.replace('/', '.'))).put(Opcodes.INVOKESTATIC).putShort(
                 constants.method("java/lang/Class", "forName", "(Ljava/lang/String;)Ljava/lang/Class;"));
     }

@@ -40,7 +40,7 @@ final class Rewriter implements ClassFileTransformer {
     /** Loads what rewriting needs, so that none of it is loaded in the middle of it. */
     void warmUp() throws IOException {
         try (InputStream file = ClassLoader.getSystemResourceAsStream("java/lockdep/Warm.class")) {
-            if (file != null) rewrite(null, file.readAllBytes(), null, false);
+            if (file != null) rewrite(null, file.readAllBytes(), null, false, false);
         }
     }
 
@@ -51,8 +51,28 @@ final class Rewriter implements ClassFileTransformer {
         boolean isOfJdk = isOfJdk(module, name);
         if (isOfJdk && !begins(name, jdk)) return null;
         if (begins(name, NEVER) && !begins(name, ALWAYS)) return null;
+        return rewriteOrTell(name, loader, file, domain, isOfJdk, false);
+    }
+
+    /** The file of a hidden class that the JVM shows to no agent, as it is to be defined beside a class; null if it stays as it is. */
+    byte[] rewriteHidden(Class<?> beside, byte[] file) {
+        String name = beside.getName().replace('.', '/');
+        boolean isOfJdk = isOfJdk(beside.getModule(), name);
+        if (isOfJdk && !begins(name, jdk) || begins(name, NEVER)) return null;
+        return rewriteOrTell("a hidden class beside " + name, beside.getClassLoader(), file, domainOf(beside), isOfJdk, true);
+    }
+
+    private static ProtectionDomain domainOf(Class<?> type) {
         try {
-            return rewrite(loader, file, domain, isOfJdk);
+            return type.getProtectionDomain();
+        } catch (SecurityException mayNotLook) {
+            return null;
+        }
+    }
+
+    private byte[] rewriteOrTell(String name, ClassLoader loader, byte[] file, ProtectionDomain domain, boolean isOfJdk, boolean isHidden) {
+        try {
+            return rewrite(loader, file, domain, isOfJdk, isHidden);
         } catch (Throwable error) {
             Recording.unrewritten();
             tellWhy(name, error);
@@ -77,15 +97,15 @@ final class Rewriter implements ClassFileTransformer {
         return false;
     }
 
-    private byte[] rewrite(ClassLoader loader, byte[] file, ProtectionDomain domain, boolean isOfJdk)
+    private byte[] rewrite(ClassLoader loader, byte[] file, ProtectionDomain domain, boolean isOfJdk, boolean isHidden)
             throws IOException {
         ClassFile type = new ClassFile(file);
         String location = location(domain);
-        Source source = Source.add(type.name.replace('/', '.'), type.sourceFile, location, type.firstLine, isOfJdk);
+        Source source = Source.add(type.name.replace('/', '.'), type.sourceFile, location, type.firstLine, isOfJdk, isHidden);
         try (Hierarchy hierarchy = new Hierarchy(loader, location)) {
             if (!isOfJdk && hierarchy.isSynchronizer(type.name, type.superName)) Recording.synchronizer();
             Locking locking = new Locking(type);
-            hierarchy.add(type, locking);
+            hierarchy.add(type, locking, isHidden);
             boolean isOfProgram = !isOfJdk && loader != null && loader != ClassLoader.getPlatformClassLoader();
             Wanted wanted = new Wanted(type, hierarchy, locking, isOfProgram, begins(Locking.BUFFER, jdk));
             if (!wanted.hasAny()) return null;
