@@ -11,8 +11,8 @@
 #include <stdint.h>
 #include <string.h>
 
-/* "lockrecc", little endian: its last letter is another one when what follows is laid out in another way. */
-#define RAW_MAGIC UINT64_C(0x636365726b636f6c)
+/* "lockrecd", little endian: its last letter is another one when what follows is laid out in another way. */
+#define RAW_MAGIC UINT64_C(0x646365726b636f6c)
 
 /* The file's size, if no limit forbids it, and the size under which a recording may well be too small. */
 #define RAW_BYTES (UINT64_C(4) << 30)
@@ -272,6 +272,16 @@ struct raw_left_out {
 enum raw_waits { RAW_WAITS_NOT, RAW_WAITS, RAW_WAITS_AT_EXIT, RAW_WAITS_FOR_A_TIME };
 #define RAW_CALLED 16 /* bytes of a thread's name, with the 0 at its end */
 
+/* A condition that a thread signalled, with the lock that it took last, or had released just before: it may have said so that it is done. */
+#define RAW_NOTICES 2 /* of a thread; the newest comes first */
+struct raw_notice {
+    uint64_t condition, lock; /* their addresses; 0 of none */
+    uint64_t moment;          /* of the preload library */
+    uint64_t calls;           /* of the thread when all that it held then is released, if it takes nothing meanwhile */
+    uint32_t pauses;          /* of the thread */
+    uint32_t is_alone;        /* it held no other lock */
+};
+
 struct raw_thread {
     uint32_t process;
     uint32_t is_ready;
@@ -292,6 +302,7 @@ struct raw_thread {
     uint64_t last_lock; /* its address */
     char name[RAW_CALLED];
     uint64_t chunks[RAW_CHUNKS]; /* where they begin in the file; 0 if there is none yet */
+    struct raw_notice notices[RAW_NOTICES]; /* all 0 if the thread ended with a lock held */
 };
 
 /* The first parts of each kind lie close together at the file's beginning, since the first use of each of its pages is dear. */

@@ -21,6 +21,7 @@ struct held {
     bool is_written; /* there is a record of it */
     bool is_wish;    /* the thread still waits for it */
     uint8_t weak;    /* what of RAW_WEAK its record has besides */
+    uint32_t since;  /* as in struct heard; 0 if the thread hasn't waited for a condition with the lock since it took it */
     uint64_t record; /* the number of its record */
     uint64_t fresh_before; /* where the last record of something new ended then */
 };
@@ -90,6 +91,14 @@ struct turn {
 
 #define MOST_USED 8 /* (as many as fill a line of the processor's) */
 
+/* A condition that the thread has waited for with a lock that it still held in between, but for the waits. Moments are those of notices.c. */
+#define MOST_HEARD 4
+struct heard {
+    uintptr_t condition;
+    uint64_t from, to; /* when the first wait for it began, and when the last wait with the lock ended */
+    uint32_t since;    /* tells this hold of the lock from others: the lowest bits of when the first wait with it began */
+};
+
 /* The function of the loader's that a thread is in, or was in when it came last. */
 struct loading {
     uintptr_t lock; /* the loader's; 0: in none */
@@ -134,6 +143,8 @@ struct thread {
     uint64_t *seen;     /* a set of the ways in which a lock was taken under others */
     size_t seen_mask, seen_used;
     uint32_t unnoted; /* so many holds there are without an entry */
+    uint32_t heard_count; /* with those that aren't here any more */
+    struct heard heard[MOST_HEARD]; /* the conditions that it waited for last */
     uint32_t *held_by_trace; /* room for mending; NULL until it is needed */
     uintptr_t own_locks[OWN_LOCKS]; /* the last ones that were met first by it, in its frames or among its own variables; 0: none */
     uint32_t own_lock_count; /* so many there were, with those that aren't here any more */
@@ -323,6 +334,10 @@ QUICK bool released_again(uintptr_t lock, struct call call) {
     go_outside();
     return is_done;
 }
+
+/* ---- notices.c */
+
+void end_notices(struct thread *t);
 
 /* ---- library.c */
 

@@ -135,8 +135,6 @@ static void pause_looking(void) {
 
 enum ending { GOES_ON, HAD_ENDED, TAKES_ONE };
 
-#define OF_ONE_LOCK 2 /* so many calls are an acquisition and a release */
-
 /* Whether it ends, and meanwhile waits for nothing and makes no more calls than that. */
 static bool ends_soon(const struct raw_thread *part, uint32_t pauses, uint64_t calls, uint64_t most) {
     for (int i = 0; i < LOOKS && !LOAD(&part->ended) && LOAD(&part->calls) - calls <= most && LOAD(&part->pauses) == pauses; i++)
@@ -178,9 +176,13 @@ static void end_join(pthread_t thread, uint8_t weak, bool is_wish, enum ending e
     const struct raw_thread *part = part_of_life(thread);
     bool is_told = part && LOAD(&part->count) && matters();
     if ((is_told || has_trace()) && enter_recorder(call)) {
-        pass_end((uintptr_t)thread, is_told ? object_of(thread) : 0, MODE_WRITE | weak | (ending ? RAW_ENDED : 0), call);
-        if (is_told && ending == TAKES_ONE)
-            pass_end(part->last_lock, raw_object(part->last), mode_of_last(part) | weak, call);
+        bool takes_one = ending == TAKES_ONE;
+        uint32_t object = is_told ? object_of(thread) : 0;
+        uint8_t mode = MODE_WRITE | weak | (ending ? RAW_ENDED : 0);
+        if (!object || !ending || !pass_end_early((uintptr_t)thread, object, mode, part, &takes_one, call))
+            pass_end((uintptr_t)thread, object, mode, call);
+        if (is_told && takes_one)
+            pass_end(part->last_lock, raw_object(part->last), mode_of_last(part) | weak | (ending == HAD_ENDED ? RAW_ENDED : 0), call);
         end_inside();
     }
     if (!is_told)
