@@ -247,6 +247,7 @@ struct raw_run {
     uint32_t start;         /* as in raw_thread */
     uint64_t count;
     uint64_t calls; /* so many acquisitions and releases of the thread's own code were seen when the first one came */
+    uint64_t self;  /* its pthread_t */
     uint32_t sent;  /* of enum raw_sent: to whom */
 };
 

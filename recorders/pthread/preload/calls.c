@@ -301,15 +301,14 @@ EXPORT int pthread_create(pthread_t *thread, const pthread_attr_t *how, void *(*
         return EAGAIN;
     if (RARELY(is_for_libraries))
         comes_from_library(HERE);
-    uint32_t before = traces_so_far();
     note_handing_on();
     if (is_recording())
         note_frames(HERE);
-    uint32_t life = begin_start();
+    struct starting starting = begin_start();
     int error = REAL(pthread_create)(thread, how, run, with);
     if (!error) {
         forget_name(*thread);
-        note_start(*thread, (uintptr_t)run, before, life, HERE);
+        note_start(*thread, (uintptr_t)run, starting, HERE);
     }
     return error;
 }

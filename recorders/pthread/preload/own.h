@@ -496,11 +496,15 @@ uint32_t held_before_notice(const struct raw_thread *raw, bool *takes_one);
 
 /* ---- joins.c */
 
+/* What there was when a thread was about to be started: so many traces, and runs of sources in threads; and the number of the start, or 0. */
+struct starting {
+    uint32_t traces, runs, life;
+};
 uint32_t start_of_this_thread(void);
-uint32_t traces_so_far(void);
-uint32_t begin_start(void);
-void note_start(pthread_t thread, uintptr_t run, uint32_t before, uint32_t life, struct call call);
+struct starting begin_start(void);
+void note_start(pthread_t thread, uintptr_t run, struct starting starting, struct call call);
 void note_trace(struct raw_thread *part, uint32_t number);
+void note_run(struct raw_run *run); /* whose process is known */
 bool is_first_thread(void);
 
 /* ---- annotations.c */
