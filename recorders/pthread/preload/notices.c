@@ -89,13 +89,16 @@ void end_hearing(const struct hearing *hearing, uintptr_t lock, uintptr_t condit
 
 /* ---- Whether it was heard. */
 
-static bool is_heard(const struct thread *t, uint32_t since, const struct raw_notice *notice) {
-    for (int i = 0; i < MOST_HEARD; i++) {
-        const struct heard *h = &t->heard[i];
-        if (h->since == since && h->condition == notice->condition && h->from <= notice->moment && notice->moment <= h->to)
-            return true;
-    }
-    return false;
+/* What this thread has heard of a condition with this hold of the lock, or NULL. */
+static const struct heard *heard_of(const struct thread *t, const struct held *h, uintptr_t condition) {
+    for (int i = 0; i < MOST_HEARD; i++)
+        if (t->heard[i].since == h->since && t->heard[i].condition == condition)
+            return &t->heard[i];
+    return NULL;
+}
+
+static bool is_between(const struct heard *heard, const struct raw_notice *notice) {
+    return heard->from <= notice->moment && notice->moment <= heard->to;
 }
 
 static bool is_shared_condition(uintptr_t condition) {
@@ -114,11 +117,31 @@ static bool is_last(const struct raw_thread *raw, const struct raw_notice *notic
     return raw->pauses == notice->pauses && (raw->calls == notice->calls || is_before_one(raw, notice));
 }
 
+/* Whether a thread that has ended, and ran the same function, gave the same notice when this one waited for it. */
+#define MOST_ALIKE 1024 /* threads that are looked at, the newest ones */
+static bool is_heard_from_another(const struct heard *heard, const struct raw_thread *raw, const struct raw_notice *notice) {
+    uint32_t used = LOAD(&arena->regions[RAW_THREADS].used), room = arena->regions[RAW_THREADS].room, last = used < room ? used : room;
+    for (uint32_t number = last; number > 0 && number + MOST_ALIKE > last; number--) {
+        const struct raw_thread *other = part_of(RAW_THREADS, number);
+        bool is_alike = raw->start && other->start == raw->start && other->process == own_process && LOAD(&other->ended);
+        const struct raw_notice *same = &other->notices[other->notices[0].condition != notice->condition];
+        if (is_alike && same->condition == notice->condition && same->lock == notice->lock && is_between(heard, same) && is_last(other, same))
+            return true;
+    }
+    return false;
+}
+
+/* A thread that was done before this one waited is heard if another one of its kind was: who waits for all of several waits for it too. */
+static bool is_heard(const struct heard *heard, const struct raw_thread *raw, const struct raw_notice *notice) {
+    return heard && (is_between(heard, notice) || (notice->moment < heard->from && is_heard_from_another(heard, raw, notice)));
+}
+
 /* The notice that the thread has given with a lock that this one holds, or NULL. */
 static const struct raw_notice *notice_with(const struct thread *t, const struct held *h, const struct raw_thread *raw) {
     for (int i = 0; i < RAW_NOTICES; i++) {
         const struct raw_notice *notice = &raw->notices[i];
-        if (notice->lock == h->lock && is_heard(t, h->since, notice) && is_last(raw, notice) && !is_shared_condition(notice->condition))
+        bool is_of_this = notice->lock == h->lock && is_last(raw, notice) && !is_shared_condition(notice->condition);
+        if (is_of_this && is_heard(heard_of(t, h, notice->condition), raw, notice))
             return notice;
     }
     return NULL;

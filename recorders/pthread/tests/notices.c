@@ -6,6 +6,8 @@
      nested    it has another lock besides when it signals
      first     it signals another condition after that
      many      four threads, which are joined one after the other
+     pool      the same, but the first one has ended before the joiner takes the lock
+     unlike    the same, and that one runs another function
      deep      the lock is recursive, and both have it twice
      cleans    it takes a lock of its own after that
      crosses   the same, and another thread takes that lock, and under it the one that is held: a cycle of these two
@@ -185,7 +187,7 @@ static void wait_once(void) {
 }
 
 /* The thread takes the lock only when it is given back to wait, unless it is to come before. */
-static int comes_before(void) { return is("before") || is("earlier"); }
+static int comes_before(void) { return is("before") || is("earlier") || is("pool") || is("unlike"); }
 
 static int waits_for_third(void) { return is("unheard") || is("earlier") || is("by_other") || is("twice"); }
 
@@ -219,26 +221,26 @@ static void release_all(void) {
         pthread_mutex_unlock(&s->state);
 }
 
-static void start_all(pthread_t *threads) {
-    for (int i = 0; i < wanted; i++)
+static void *unlike_worker(void *unused) { return worker(unused); }
+
+static void start_all(pthread_t *threads, int from) {
+    for (int i = from; i < wanted; i++)
         threads[i] = started(worker);
 }
 
 /* Starts the threads with the lock held, or takes it when they have ended. */
 static void start_and_lock(pthread_t *threads) {
     if (comes_before()) {
-        start_all(threads);
+        threads[0] = started(is("unlike") ? unlike_worker : worker);
         await_end(0);
-        pthread_mutex_lock(&s->state);
-        return;
     }
     pthread_mutex_lock(&s->state);
-    start_all(threads);
+    start_all(threads, comes_before());
 }
 
 /* The thread has taken the other lock before. */
 static void start_and_lock_both(pthread_t *threads) {
-    start_all(threads);
+    start_all(threads, 0);
     await(&has_used);
     pthread_mutex_lock(&used);
     pthread_mutex_lock(&s->state);
@@ -336,7 +338,7 @@ int main(int argc, char **argv) {
         end_when_asleep();
     if (is("crosses"))
         in_thread(crosser, NULL);
-    wanted = is("many") ? MOST : 1;
+    wanted = is("many") || is("pool") || is("unlike") ? MOST : 1;
     if (is("c11"))
         join_c11();
     else if (is("forked"))
