@@ -11,8 +11,8 @@
 #include <stdint.h>
 #include <string.h>
 
-/* "lockrecc", little endian: its last letter is another one when what follows is laid out in another way. */
-#define RAW_MAGIC UINT64_C(0x636365726b636f6c)
+/* "lockrecd", little endian: its last letter is another one when what follows is laid out in another way. */
+#define RAW_MAGIC UINT64_C(0x646365726b636f6c)
 
 /* The file's size, if no limit forbids it, and the size under which a recording may well be too small. */
 #define RAW_BYTES (UINT64_C(4) << 30)
@@ -44,13 +44,14 @@ enum mode { MODE_WRITE, MODE_READ, MODE_REC_READ, MODE_TRY_WRITE, MODE_TRY_READ,
 /* Added to the mode of an acquisition: the program says in which order locks of the class are nested, and this one comes after all of them
    that are held. And of one that comes under others: the wait for it gives up at a time; the thread itself made the lock, has held
    others ever since, and no other thread has come to it; it is a thread that had ended; it is a routine that had run once, for which the thread would
-   have waited a little earlier. */
+   have waited a little earlier. RAW_UNDER_NEW, of a lock that isn't a thread: all locks that the thread held were new, and this one isn't. */
 #define RAW_IN_ORDER 8
 #define RAW_TIMED 16
 #define RAW_NEW 32
 #define RAW_ENDED 64
 #define RAW_DONE 128
 #define RAW_WEAK (RAW_TIMED | RAW_NEW | RAW_ENDED | RAW_DONE)
+#define RAW_UNDER_NEW (RAW_NEW | RAW_ENDED)
 
 /* One acquisition or release: the object in the low 24 bits and the mode above them, and where it happened. Of MODE_STATE it is the state that
    the thread is in from there on, instead of an object; until then it is in none. */
@@ -65,6 +66,7 @@ static inline uint32_t raw_what(uint32_t object, uint32_t mode) { return mode <<
 static inline uint32_t raw_object(uint32_t what) { return what & ((UINT32_C(1) << RAW_OBJECT_BITS) - 1); }
 static inline enum mode raw_plain(uint32_t mode) { return (enum mode)(mode & (RAW_IN_ORDER - 1)); }
 static inline enum mode raw_mode(uint32_t what) { return raw_plain(what >> RAW_OBJECT_BITS); }
+static inline int raw_is_new_itself(uint32_t added) { return (added & RAW_UNDER_NEW) == RAW_NEW; }
 static inline int raw_has(uint32_t what, uint32_t added) { return (what >> RAW_OBJECT_BITS & added) != 0; }
 
 /* An address as a module's number and an offset in its file, in 16 bits and 48; RAW_NOWHERE where it is in no module. */
@@ -245,6 +247,7 @@ struct raw_run {
     uint32_t start;         /* as in raw_thread */
     uint64_t count;
     uint64_t calls; /* so many acquisitions and releases of the thread's own code were seen when the first one came */
+    uint64_t self;  /* its pthread_t */
     uint32_t sent;  /* of enum raw_sent: to whom */
 };
 
@@ -270,6 +273,16 @@ struct raw_left_out {
 enum raw_waits { RAW_WAITS_NOT, RAW_WAITS, RAW_WAITS_AT_EXIT, RAW_WAITS_FOR_A_TIME };
 #define RAW_CALLED 16 /* bytes of a thread's name, with the 0 at its end */
 
+/* A condition that a thread signalled, with the lock that it took last, or had released just before: it may have said so that it is done. */
+#define RAW_NOTICES 2 /* of a thread; the newest comes first */
+struct raw_notice {
+    uint64_t condition, lock; /* their addresses; 0 of none */
+    uint64_t moment;          /* of the preload library */
+    uint64_t calls;           /* of the thread when all that it held then is released, if it takes nothing meanwhile */
+    uint32_t pauses;          /* of the thread */
+    uint32_t is_alone;        /* it held no other lock */
+};
+
 struct raw_thread {
     uint32_t process;
     uint32_t is_ready;
@@ -290,6 +303,7 @@ struct raw_thread {
     uint64_t last_lock; /* its address */
     char name[RAW_CALLED];
     uint64_t chunks[RAW_CHUNKS]; /* where they begin in the file; 0 if there is none yet */
+    struct raw_notice notices[RAW_NOTICES]; /* all 0 if the thread ended with a lock held */
 };
 
 /* The first parts of each kind lie close together at the file's beginning, since the first use of each of its pages is dear. */

@@ -170,6 +170,13 @@ class Hiding(unittest.TestCase):
         self.assertEqual(keys(sorted_by("cycle class:a class:[bx]\n").new), ["c/0"])
         self.assertEqual(keys(sorted_by("cycle class:a\n").new), ["a/0", "c/0"])
 
+    def test_a_pattern_needs_no_gate(self):
+        gates = [{"gate": "g/0", "orders": [{"from": "a/0", "kind": "EN", "to": "b/0"}, {"from": "b/0", "kind": "EN", "to": "a/0"}]}]
+        said = [circle("a/0", "b/0", gates=gates, between=between("locks", circle("a#1/0", "b#1/0", gates=gates)))]
+        places = {name: ("init", []) for name in ("a", "b", "g")}  # (in files of the same names)
+        for text, left in (("class:a class:b", 0), ("module:a module:b", 0), ("class:a class:g", 1)):
+            self.assertEqual(len(sorted_by("cycle %s\n" % text, places, said).new), left, text)
+
     def test_a_pattern_needs_a_function_in_a_file(self):
         for text, left in (("function:flush_*", 0), ("function:flush_all", 0), ("function:flush", 2), ("file:store/*", 0), ("file:store/x.c", 2),
                            ("function:flush_all file:disk.c", 0), ("function:other file:disk.c", 2)):

@@ -11,7 +11,7 @@ from .blocked import Blocked
 from .breaches import Breach
 from .cplusplus import without_parameters
 from .findings import Finding, by_line, handlers_of, report_lines
-from .sources import Sources, keys_of
+from .sources import Sources, own_keys_of
 from .stale import Judge
 from .suppressions import EXCUSED, KINDS, TEXT, VERDICT, Entry, entries_of, pattern_text, today
 from .symbols import Frame
@@ -76,7 +76,7 @@ def names_of(frames: list[Frame]) -> list[tuple[str, str]]:
 def fits_finding(entry: Entry, finding: Finding, sources: Sources) -> bool:
     if not entry.is_pattern or entry.type != finding.type:
         return False
-    keys = keys_of(finding)[:len(finding.keys) + 2 * len(finding.orders)]
+    keys = own_keys_of(finding)
     frames, handler = frames_of(finding.events(), sources), finding.handler
     frames += names_of([handler.frame(sources.symbols)]) if handler else []
     return entry.hides(finding.type, classes_of(keys, sources), frames, handler.signal if handler else "",

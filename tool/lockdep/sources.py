@@ -150,10 +150,14 @@ def has_changed(source: str, trace: str) -> bool:
         return False
 
 
+def own_keys_of(finding: Finding) -> list[str]:
+    """The keys of a finding's locks, each once, without those of gates."""
+    return list(dict.fromkeys(list(finding.keys) + [key for order in finding.orders for key in (order.start, order.end)]))
+
+
 def keys_of(finding: Finding) -> list[str]:
     """The keys that a finding names, each once."""
-    keys = list(finding.keys) + [key for order in finding.orders for key in (order.start, order.end)]
-    keys += [gate.key for gate in finding.gates]
+    keys = own_keys_of(finding) + [gate.key for gate in finding.gates]
     if finding.between and finding.between.finding:
         keys += keys_of(finding.between.finding)
     return list(dict.fromkeys(keys))

@@ -214,17 +214,27 @@ static void take_back(struct trace *t, const struct held *new) {
             write_event(t, &t->held[i], mode_words[t->held[i].mode % MODE_TRY_WRITE + MODE_TRY_WRITE], t->held[i].place);
 }
 
-/* ---- Weak acquisitions: under others, and by a wait that gives up, of a lock that no other thread knew yet, or of a thread that had ended.
-   They are in the trace as any others; a file says which they are. */
+/* ---- Weak acquisitions: under others, and by a wait that gives up, of a lock that no other thread knew yet or under such locks alone, or of a
+   thread that had ended. They are in the trace as any others; a file says which they are. */
 
 static const struct {
     uint32_t added;
     const char *word;
 } weak_kinds[] = {{RAW_TIMED, "timed"}, {RAW_NEW, "new-lock"}, {RAW_ENDED, "ended-thread"}};
 
-static void tell_weak(struct trace *t, uint32_t what) {
+/* In which ways an acquisition of the trace is weak. A thread that is waited for is itself held under all that it takes, and is no new lock. Of a
+   handler that comes late all waits are. */
+static uint32_t weak_of(const struct trace *t, const struct raw_record *r) {
+    uint32_t added = r->what >> RAW_OBJECT_BITS & RAW_WEAK, is_late = t->is_frame && comes_late(t->source) && !is_try(raw_mode(r->what)) ? RAW_ENDED : 0;
+    bool is_under_new = (added & RAW_UNDER_NEW) == RAW_UNDER_NEW;
+    if (is_under_new)
+        added &= own_object(t->arena, t->raw) ? ~(uint32_t)RAW_UNDER_NEW : ~(uint32_t)RAW_ENDED;
+    return added | is_late;
+}
+
+static void tell_weak(struct trace *t, uint32_t added) {
     for (size_t i = 0; i < sizeof weak_kinds / sizeof *weak_kinds; i++) {
-        if (!raw_has(what, weak_kinds[i].added))
+        if (!(added & weak_kinds[i].added))
             continue;
         if (!t->weak)
             t->weak = checked(open_memstream(&t->weak_text, &t->weak_length));
@@ -293,7 +303,7 @@ static void take(struct trace *t, const struct raw_record *r) {
     if (h.is_written)
         write_event(t, &h, mode_word(t, &h), r->place);
     if (h.is_written)
-        tell_weak(t, r->what | (t->is_frame && comes_late(t->source) && !is_try(mode) ? raw_what(0, RAW_ENDED) : 0));
+        tell_weak(t, weak_of(t, r));
     if (h.is_written && is_in_order)
         take_back(t, &h);
     t->written += h.is_written;

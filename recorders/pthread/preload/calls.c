@@ -18,7 +18,8 @@
     X(pthread_rwlock_clockwrlock) X(pthread_rwlock_unlock) X(pthread_spin_init) X(pthread_spin_destroy)                   \
     X(pthread_spin_lock) X(pthread_spin_trylock) X(pthread_spin_unlock) X(pthread_cond_wait) X(pthread_cond_timedwait)    \
     X(pthread_cond_clockwait) X(mtx_init) X(mtx_destroy) X(mtx_lock) X(mtx_timedlock) X(mtx_trylock) X(mtx_unlock)        \
-    X(cnd_wait) X(cnd_timedwait) X(pthread_create)
+    X(cnd_wait) X(cnd_timedwait) X(pthread_cond_signal) X(pthread_cond_broadcast) X(cnd_signal) X(cnd_broadcast)           \
+    X(pthread_create)
 
 REALS(KNOWN_REAL)
 
@@ -229,10 +230,11 @@ RELEASING(mtx_unlock, mtx_t)
    is none is refused before that. A robust mutex that has become useless meanwhile isn't taken again. */
 
 struct waiting {
-    uintptr_t lock;
+    uintptr_t condition, lock;
     struct call call;
     bool is_released;
     uint32_t subclass; /* as which it is held */
+    struct hearing hearing;
 };
 
 static void begin_wait(struct waiting *w, bool is_sound) {
@@ -240,6 +242,7 @@ static void begin_wait(struct waiting *w, bool is_sound) {
     w->is_released = is_sound && is_held_once(w->lock);
     if (w->is_released) {
         w->subclass = subclass_held(w->lock);
+        w->hearing = begin_hearing(w->lock);
         releasing(w->lock, w->call);
     }
 }
@@ -251,6 +254,7 @@ static void end_wait(void *value) {
         if (RARELY(w->subclass))
             say_subclass(w->lock, w->subclass);
         acquired(w->lock, MODE_WRITE, KIND_MUTEX, w->call);
+        end_hearing(&w->hearing, w->lock, w->condition);
     }
 }
 
@@ -258,7 +262,7 @@ static void end_wait(void *value) {
     EXPORT int name parameters {                                                                                       \
         if (!resolved())                                                                                               \
             return 0;                                                                                                  \
-        struct waiting w = {(uintptr_t)lock, HERE, false, 0};                                                          \
+        struct waiting w = {.condition = (uintptr_t)condition, .lock = (uintptr_t)lock, .call = HERE};                 \
         int answer;                                                                                                    \
         begin_wait(&w, is_sound);                                                                                      \
         pthread_cleanup_push(end_wait, &w);                                                                            \
@@ -274,6 +278,22 @@ WAITING(pthread_cond_clockwait, IS_CLOCK(clock) && is_time(until), (pthread_cond
 WAITING(cnd_wait, true, (cnd_t * condition, mtx_t *lock), (condition, lock))
 WAITING(cnd_timedwait, is_time(until), (cnd_t *restrict condition, mtx_t *restrict lock, const struct timespec *restrict until), (condition, lock, until))
 
+/* ---- Signalling a condition: so a thread may say that it is done, to one that waits for that. */
+
+#define SIGNALLING(name, type)                                                                                         \
+    EXPORT int name(type *condition) {                                                                                 \
+        __typeof__(&name) real = READY(name);                                                                          \
+        if (!real)                                                                                                     \
+            return 0;                                                                                                  \
+        note_signal((uintptr_t)condition, HERE);                                                                       \
+        return real(condition);                                                                                        \
+    }
+
+SIGNALLING(pthread_cond_signal, pthread_cond_t)
+SIGNALLING(pthread_cond_broadcast, pthread_cond_t)
+SIGNALLING(cnd_signal, cnd_t)
+SIGNALLING(cnd_broadcast, cnd_t)
+
 /* ---- Threads. Where the frames of their starter are is noted, since locks in them are mostly for the new thread too. */
 
 EXPORT int pthread_create(pthread_t *thread, const pthread_attr_t *how, void *(*run)(void *), void *with) {
@@ -281,15 +301,14 @@ EXPORT int pthread_create(pthread_t *thread, const pthread_attr_t *how, void *(*
         return EAGAIN;
     if (RARELY(is_for_libraries))
         comes_from_library(HERE);
-    uint32_t before = traces_so_far();
     note_handing_on();
     if (is_recording())
         note_frames(HERE);
-    uint32_t life = begin_start();
+    struct starting starting = begin_start();
     int error = REAL(pthread_create)(thread, how, run, with);
     if (!error) {
         forget_name(*thread);
-        note_start(*thread, (uintptr_t)run, before, life, HERE);
+        note_start(*thread, (uintptr_t)run, starting, HERE);
     }
     return error;
 }

@@ -29,8 +29,12 @@ static void note_life(uint32_t number, enum life_kind kind, pthread_t thread, ui
     STORE(&life->kind, kind);
 }
 
-/* The number of a start that comes now; 0 if it isn't noted. */
-uint32_t begin_start(void) { return is_noting() ? take_part(RAW_LIVES) : 0; }
+static uint32_t so_far(enum raw_kind kind) { return is_recording() ? LOAD(&arena->regions[kind].used) : 0; }
+
+/* A start comes now. */
+struct starting begin_start(void) {
+    return (struct starting){so_far(RAW_THREADS), so_far(RAW_RUNS), is_noting() ? take_part(RAW_LIVES) : 0};
+}
 
 static void note_join(pthread_t thread, uint32_t known, enum life_kind kind, int error) {
     uint32_t number = error || !is_noting() ? 0 : take_part(RAW_LIVES);
@@ -58,8 +62,6 @@ static void note(pthread_t thread, enum about what, uint32_t value) {
         __atomic_store_n(slot, value, __ATOMIC_SEQ_CST);
 }
 
-uint32_t traces_so_far(void) { return is_recording() ? LOAD(&arena->regions[RAW_THREADS].used) : 0; }
-
 /* The part of a thread that has a trace; NULL for another. */
 static struct raw_thread *part_of_life(pthread_t thread) {
     uint32_t trace = known(thread, TRACE);
@@ -67,18 +69,29 @@ static struct raw_thread *part_of_life(pthread_t thread) {
     return part && part->process == own_process ? part : NULL;
 }
 
-void note_start(pthread_t thread, uintptr_t run, uint32_t before, uint32_t life, struct call call) {
-    if (life)
-        note_life(life, LIFE_START, thread, lives_so_far());
+/* A handler may have run in the thread already, when it wasn't known yet who had started it. */
+static void note_start_of_runs(pthread_t thread, uint32_t before) {
+    uint32_t used = so_far(RAW_RUNS), room = arena->regions[RAW_RUNS].room, last = used < room ? used : room;
+    for (uint32_t number = before + 1; number <= last; number++) {
+        struct raw_run *run = part_of(RAW_RUNS, number);
+        if (LOAD(&run->self) == (uint64_t)thread && run->process == own_process)
+            STORE(&run->start, known(thread, CLASS));
+    }
+}
+
+void note_start(pthread_t thread, uintptr_t run, struct starting starting, struct call call) {
+    if (starting.life)
+        note_life(starting.life, LIFE_START, thread, lives_so_far());
     if (!is_recording() || !begin_inside(call))
         return;
     int saved = errno;
     note(thread, CLASS, class_of_threads(run, call));
-    note(thread, BEFORE, before);
+    note(thread, BEFORE, starting.traces);
     note(thread, OBJECT, 0);
     struct raw_thread *part = part_of_life(thread);
     if (part)
         part->start = known(thread, CLASS);
+    note_start_of_runs(thread, starting.runs);
     errno = saved;
     end_inside();
 }
@@ -89,6 +102,13 @@ void note_trace(struct raw_thread *part, uint32_t number) {
     note(part->self, TRACE, number);
     part->joined = known(part->self, OBJECT);
     part->start = known(part->self, CLASS);
+}
+
+/* One of a run and who has started its thread sees what the other has noted. */
+void note_run(struct raw_run *run) {
+    __atomic_store_n(&run->self, (uint64_t)this_thread(), __ATOMIC_SEQ_CST);
+    if (start_of_this_thread())
+        STORE(&run->start, start_of_this_thread());
 }
 
 uint32_t start_of_this_thread(void) { return known(this_thread(), CLASS); }
@@ -135,8 +155,6 @@ static void pause_looking(void) {
 
 enum ending { GOES_ON, HAD_ENDED, TAKES_ONE };
 
-#define OF_ONE_LOCK 2 /* so many calls are an acquisition and a release */
-
 /* Whether it ends, and meanwhile waits for nothing and makes no more calls than that. */
 static bool ends_soon(const struct raw_thread *part, uint32_t pauses, uint64_t calls, uint64_t most) {
     for (int i = 0; i < LOOKS && !LOAD(&part->ended) && LOAD(&part->calls) - calls <= most && LOAD(&part->pauses) == pauses; i++)
@@ -178,9 +196,13 @@ static void end_join(pthread_t thread, uint8_t weak, bool is_wish, enum ending e
     const struct raw_thread *part = part_of_life(thread);
     bool is_told = part && LOAD(&part->count) && matters();
     if ((is_told || has_trace()) && enter_recorder(call)) {
-        pass_end((uintptr_t)thread, is_told ? object_of(thread) : 0, MODE_WRITE | weak | (ending ? RAW_ENDED : 0), call);
-        if (is_told && ending == TAKES_ONE)
-            pass_end(part->last_lock, raw_object(part->last), mode_of_last(part) | weak, call);
+        bool takes_one = ending == TAKES_ONE;
+        uint32_t object = is_told ? object_of(thread) : 0;
+        uint8_t mode = MODE_WRITE | weak | (ending ? RAW_ENDED : 0);
+        if (!object || !ending || !pass_end_early((uintptr_t)thread, object, mode, part, &takes_one, call))
+            pass_end((uintptr_t)thread, object, mode, call);
+        if (is_told && takes_one)
+            pass_end(part->last_lock, raw_object(part->last), mode_of_last(part) | weak | (ending == HAD_ENDED ? RAW_ENDED : 0), call);
         end_inside();
     }
     if (!is_told)
@@ -219,15 +241,14 @@ EXPORT int pthread_tryjoin_np(pthread_t thread, void **value) {
 EXPORT int thrd_create(thrd_t *thread, thrd_start_t run, void *with) {
     if (RARELY(is_for_libraries))
         comes_from_library(HERE);
-    uint32_t before = traces_so_far();
     note_handing_on();
     if (is_recording())
         note_frames(HERE);
-    uint32_t life = begin_start();
+    struct starting starting = begin_start();
     int answer = REAL(thrd_create)(thread, run, with);
     if (answer == thrd_success) {
         forget_name(*thread);
-        note_start(*thread, (uintptr_t)run, before, life, HERE);
+        note_start(*thread, (uintptr_t)run, starting, HERE);
     }
     return answer;
 }

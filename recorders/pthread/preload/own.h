@@ -385,6 +385,7 @@ bool begin_wish(uintptr_t lock, uint8_t mode, enum kind kind, struct call call);
 bool end_wish(uintptr_t lock, bool is_taken, struct call call);
 bool wish_for_end(uintptr_t thread, uint32_t object, uint8_t mode, struct call call); /* inside the recorder; end_wish is to follow */
 void pass_end(uintptr_t thread, uint32_t object, uint8_t mode, struct call call); /* inside the recorder */
+bool pass_end_early(uintptr_t thread, uint32_t object, uint8_t mode, const struct raw_thread *raw, bool *takes_one, struct call call); /* the same */
 bool has_trace(void);
 void note_pause(void); /* this thread begins to wait for something, or doesn't wait for it any more */
 bool has_passed_on(const struct raw_thread *raw); /* a thread holds nothing, and has held last what this one holds now */
@@ -481,13 +482,29 @@ void leave_for(const ucontext_t *to, struct call call); /* the thread goes on th
 void use_allocator(struct call call);
 void use_allocator_in_fork(struct call call);
 
+/* ---- notices.c */
+
+#define OF_ONE_LOCK 2 /* so many calls are an acquisition and a release */
+struct hearing { /* a wait for a condition: when it began, and with which hold of the lock, as in struct heard */
+    uint64_t from;
+    uint32_t since;
+};
+void note_signal(uintptr_t condition, struct call call);
+struct hearing begin_hearing(uintptr_t lock);
+void end_hearing(const struct hearing *hearing, uintptr_t lock, uintptr_t condition);
+uint32_t held_before_notice(const struct raw_thread *raw, bool *takes_one);
+
 /* ---- joins.c */
 
+/* What there was when a thread was about to be started: so many traces, and runs of sources in threads; and the number of the start, or 0. */
+struct starting {
+    uint32_t traces, runs, life;
+};
 uint32_t start_of_this_thread(void);
-uint32_t traces_so_far(void);
-uint32_t begin_start(void);
-void note_start(pthread_t thread, uintptr_t run, uint32_t before, uint32_t life, struct call call);
+struct starting begin_start(void);
+void note_start(pthread_t thread, uintptr_t run, struct starting starting, struct call call);
 void note_trace(struct raw_thread *part, uint32_t number);
+void note_run(struct raw_run *run); /* whose process is known */
 bool is_first_thread(void);
 
 /* ---- annotations.c */

@@ -77,8 +77,8 @@ static uint32_t define_run(uint32_t source) {
     struct raw_run *run = part_of(RAW_RUNS, number);
     run->process = own_process;
     run->system_thread = own_system_thread();
-    run->start = start_of_this_thread();
     run->calls = *thread_at_level(0) ? (*thread_at_level(0))->raw->calls : 0;
+    note_run(run);
     STORE(&run->source, source);
     return number;
 }

@@ -92,6 +92,9 @@ static bool begin_trace(struct thread *t, uint32_t source) {
     t->failed = 0;
     t->failed_under = 0;
     t->own_piece_count = 0;
+    t->own_made_count = 0;
+    t->made_at = NEVER;
+    t->own_depth = 0;
     t->is_started = source || !is_first_thread();
     t->handed_more = 0;
     t->loading.lock = 0;
@@ -156,6 +159,7 @@ static void end_own_thread(struct thread *t) {
     end_loading(t);
     withdraw_all(t, CALLER);
     note_last(t);
+    end_notices(t);
     forget_own_locks(t);
     self.thread = NULL;
     STORE(&t->raw->ended, 1);
@@ -645,7 +649,7 @@ void note_handing_on(void) {
 /* A release hands on what was made before, unless nobody else can have come to the lock: it was new when it was taken. Then what the release
    adds to handed_on, by the call and by the hold that ends, is taken back. */
 static void give_back(struct thread *t, uint32_t i, uintptr_t caller) {
-    if (RARELY(t->entries[i].held.weak & RAW_NEW))
+    if (RARELY(raw_is_new_itself(t->entries[i].held.weak)))
         t->handed_more -= 2;
     release_at(t, i, caller);
 }
@@ -836,6 +840,36 @@ static void note_if_own(struct thread *t, uintptr_t lock, uint32_t handed_on) {
             note_new(lock, t->number, handed_on);
 }
 
+/* Whether this thread has initialised the lock with nothing held, and handed nothing on since. */
+static bool is_own_made(const struct thread *t, uintptr_t lock, uint32_t handed_on) {
+    uint32_t count = t->own_made_count < OWN_MADE ? t->own_made_count : OWN_MADE;
+    for (uint32_t i = 0; i < count; i++)
+        if (t->own_made[i].address == lock && t->own_made[i].handed_on == handed_on)
+            return true;
+    return false;
+}
+
+static bool are_own_made(const struct thread *t, uint32_t handed_on) { return !t->depth || (t->own_depth == t->depth && t->own_at == handed_on); }
+
+/* A lock that this thread takes next, without waiting for it, is such a one. When another thread comes to it, it isn't any more. */
+static void note_if_own_made(struct thread *t, uintptr_t lock, uint32_t handed_on) {
+    if (t->made_at != handed_on || !are_own_made(t, handed_on) || !is_own_made(t, lock, handed_on))
+        return;
+    note_new(lock, t->number, handed_on);
+    t->own_depth = t->depth + 1;
+    t->own_at = handed_on;
+}
+
+/* Whether nobody else has come to any lock that is held: who has the next one doesn't wait for these. */
+static bool is_under_new(const struct thread *t, uint32_t handed_on) {
+    if (!t->depth || !are_own_made(t, handed_on))
+        return false;
+    for (uint32_t i = 0; i < t->depth; i++)
+        if (!comes_to_new(t->entries[i].held.lock, t->number, handed_on))
+            return false;
+    return true;
+}
+
 /* The lock's object, if there is room for one more that is held; else the hold has no entry. A semaphore has one of its own before it is
    nested, since it may be found to be no lock. The program may have said something of the lock, or that it isn't to be recorded. The call is
    among the thread's already, and the lock isn't held yet. */
@@ -849,8 +883,11 @@ static inline uint32_t object_to_hold(struct thread *t, uintptr_t lock, uint8_t 
         object = object_as_said(lock, object, &said, kind, call);
         *mode = said;
     }
-    if (object && comes_to_new(lock, t->number, handed_on(t) - 1) && raw_plain(*mode) < MODE_TRY_WRITE)
+    bool is_new = object && comes_to_new(lock, t->number, handed_on(t) - 1), waits = raw_plain(*mode) < MODE_TRY_WRITE;
+    if (waits && is_new)
         *mode |= RAW_NEW;
+    else if (waits && RARELY(t->made_at == handed_on(t) - 1) && object && is_under_new(t, handed_on(t) - 1))
+        *mode |= RAW_UNDER_NEW;
     if (!t->depth)
         *mode &= (uint8_t)(t->is_started ? ~RAW_NEW : ~RAW_WEAK);
     return RARELY(kind == KIND_COUNTED && object) ? apart(lock, object) : object;
@@ -999,6 +1036,8 @@ static void take_lock(struct thread *t, uintptr_t lock, uint8_t mode, enum kind 
         leave_unnoted(t, lock);
         return;
     }
+    if (RARELY(t->made_at == handed_on(t) - 1))
+        note_if_own_made(t, lock, handed_on(t) - 1);
     push_held(t, lock, object, mode, kind, call, false);
     note_step(t, step_from(call.caller, mode, kind), call.caller);
 }
@@ -1102,6 +1141,54 @@ void pass_end(uintptr_t thread, uint32_t object, uint8_t mode, struct call call)
         return;
     push_held(t, thread, object, mode_of_end(t, mode), KIND_THREAD, call, false);
     release_at(t, t->depth - 1, call.caller);
+}
+
+/* Gives back what is held from one lock on; then it is as if this thread hadn't taken that yet. */
+#define MOST_ASIDE 8
+struct aside {
+    struct held held;
+    uint32_t place;
+};
+
+static void set_aside(struct thread *t, uint32_t from, struct aside *aside, uintptr_t caller) {
+    for (uint32_t i = t->depth; i-- > from;) {
+        const struct held *h = &t->entries[i].held;
+        aside[i - from] = (struct aside){*h, h->is_written ? record_at(t, h->record)->place : 0};
+        release_at(t, i, caller);
+    }
+}
+
+/* Takes it again, where it was taken before. */
+static void take_back(struct thread *t, const struct aside *aside, uint32_t count, struct call call) {
+    for (const struct aside *a = aside; a < aside + count; a++) {
+        push_held(t, a->held.lock, object_of(&a->held), mode_with_weak(&a->held), (enum kind)a->held.kind, call, a->held.is_wish);
+        struct held *h = &t->entries[t->depth - 1].held;
+        h->depth = a->held.depth;
+        h->released = a->held.released;
+        h->since = a->held.since;
+        if (h->is_written && a->held.is_written)
+            record_at(t, h->record)->place = a->place;
+    }
+}
+
+/* Passes the end of a thread that has given notice to this one, as if this one had joined it before it took the lock with which it waited for that.
+   False if there was no notice: then nothing was done. `takes_one` says of a thread that gave one whether it took one more lock after that. */
+bool pass_end_early(uintptr_t thread, uint32_t object, uint8_t mode, const struct raw_thread *raw, bool *takes_one, struct call call) {
+    struct thread *t = self.thread;
+    struct aside aside[MOST_ASIDE];
+    settle_to_take(t, call);
+    uint32_t before = held_before_notice(raw, takes_one), count = t->depth - before;
+    if (!count || count > MOST_ASIDE)
+        return false;
+    if (!before && !t->is_started)
+        return true;
+    uint64_t failed_under = t->failed_under;
+    set_aside(t, before, aside, call.caller);
+    push_held(t, thread, object, mode, KIND_THREAD, call, false);
+    release_at(t, t->depth - 1, call.caller);
+    take_back(t, aside, count, call);
+    t->failed_under = failed_under;
+    return true;
 }
 
 void pass_lock(uintptr_t lock, uint8_t mode, enum kind kind, struct call call) {
@@ -1382,6 +1469,10 @@ void initialised(uintptr_t lock, struct call call) {
     keep_nesting(lock);
     if (is_own && t->depth)
         note_new(lock, t->number, handed_on(t));
+    else if (is_own) {
+        t->made_at = handed_on(t);
+        t->own_made[t->own_made_count++ % OWN_MADE] = (struct own_piece){lock, t->made_at};
+    }
     leave();
 }
 

@@ -3,12 +3,18 @@
    under another lock, when it has released the one under which it was made (`moved`): then another thread may have found it. Or another
    thread takes it so too, by a wait that gives up (`timed`).
 
+   Or it is made with nothing held, and `global` is taken under it, as when an object goes into a list (`inserts`); by a thread that is joined
+   (`by_thread`), with `global` held (`joined`). Or before that its maker has released another lock (`kept`), another thread has tried it
+   (`known`), or another lock is held as well (`beside`), or another one that is new (`pair`).
+
    Or between making and taking it there the maker hands it on: to a thread that it starts (`started`), under a lock that it releases (`listed`),
    or by a semaphore (`posted`). Nothing is handed on if it only takes and releases the new lock (`twice`), or takes a recursive lock that it
    holds once more (`recursive`), or if it starts a thread before (`earlier`). */
 #include "common.h"
 
+#include <sched.h>
 #include <semaphore.h>
+#include <stdatomic.h>
 
 static pthread_mutex_t global = PTHREAD_MUTEX_INITIALIZER, other = PTHREAD_MUTEX_INITIALIZER;
 static pthread_mutex_t *shared;
@@ -122,6 +128,94 @@ static void make_and_move_on(void) {
 
 THREAD(use_other, NEST(shared, &other))
 
+/* ---- What is made with nothing held. */
+
+static atomic_int may_try, is_done;
+
+static void await(atomic_int *state) {
+    while (!*state)
+        sched_yield();
+}
+
+static void *try_when_asked(void *unused) {
+    await(&may_try);
+    try_in_vain(unused);
+    is_done = 1;
+    return unused;
+}
+
+static void have_tried(void) {
+    may_try = 1;
+    await(&is_done);
+}
+
+/* The lock is taken, under another one or not, and `global` with it held. */
+static void insert(pthread_mutex_t *under, void (*first)(void)) {
+    if (under)
+        pthread_mutex_lock(under);
+    pthread_mutex_lock(shared);
+    if (first)
+        first();
+    take_and_give(&global);
+    pthread_mutex_unlock(shared);
+    if (under)
+        pthread_mutex_unlock(under);
+}
+
+static void *make_and_insert(void *unused) {
+    make();
+    insert(NULL, NULL);
+    is_done = 1;
+    return unused;
+}
+
+static void make_in_thread(int is_held) {
+    pthread_t maker;
+    pthread_create(&maker, NULL, make_and_insert, NULL);
+    await(&is_done);
+    if (is_held)
+        pthread_mutex_lock(&global);
+    pthread_join(maker, NULL);
+    if (is_held)
+        pthread_mutex_unlock(&global);
+}
+
+static void make_known(void) {
+    pthread_t tries;
+    pthread_create(&tries, NULL, try_when_asked, NULL);
+    make();
+    insert(NULL, have_tried);
+    pthread_join(tries, NULL);
+}
+
+static void make_pair(void) {
+    pthread_mutex_t second;
+    pthread_mutex_init(&second, NULL);
+    make();
+    insert(&second, NULL);
+}
+
+THREAD(use_inserted, use_again())
+
+static int has_inserted(const char *way) {
+    if (strcmp(way, "inserts") == 0)
+        make_and_insert(NULL);
+    else if (strcmp(way, "by_thread") == 0 || strcmp(way, "joined") == 0)
+        make_in_thread(strcmp(way, "joined") == 0);
+    else if (strcmp(way, "kept") == 0) {
+        make();
+        take_and_give(&other);
+        insert(NULL, NULL);
+    } else if (strcmp(way, "known") == 0)
+        make_known();
+    else if (strcmp(way, "beside") == 0) {
+        make();
+        insert(&other, NULL);
+    } else if (strcmp(way, "pair") == 0)
+        make_pair();
+    return shared != NULL;
+}
+
 int main(int argc, char **argv) {
     const char *way = argc > 1 ? argv[1] : "";
     if (strcmp(way, "recursive") == 0)
@@ -133,6 +227,10 @@ int main(int argc, char **argv) {
     if (strcmp(way, "moved") == 0) {
         make_and_move_on();
         in_thread(use_other, NULL);
+        return 0;
+    }
+    if (has_inserted(way)) {
+        in_thread(use_inserted, NULL);
         return 0;
     }
     if (strcmp(way, "before") == 0)
