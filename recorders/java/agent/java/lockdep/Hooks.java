@@ -83,7 +83,17 @@ public final class Hooks {
         }
     }
 
-    private static int suspend(Object object) {
+    /** Of TimeUnit, which waits on the object. */
+    public static void timedWait(TimeUnit unit, Object object, long time, int site) throws InterruptedException {
+        int levels = time > 0 ? suspend(object) : 0;
+        try {
+            unit.timedWait(object, time);
+        } finally {
+            resume(object, levels, site);
+        }
+    }
+
+    static int suspend(Object object) {
         Task task = object == null ? null : Task.begin();
         if (task == null) return 0;
         int levels = 0;
@@ -97,7 +107,7 @@ public final class Hooks {
         return levels;
     }
 
-    private static void resume(Object object, int levels, int site) {
+    static void resume(Object object, int levels, int site) {
         Task task = levels == 0 ? null : Task.begin();
         if (task == null) return;
         try {
@@ -171,6 +181,18 @@ public final class Hooks {
 
     public static void join(Object thread, long milliseconds, int nanoseconds, int site) throws InterruptedException {
         Join.join((Thread) thread, milliseconds, nanoseconds, site);
+    }
+
+    /** Of TimeUnit, which splits the time as here. */
+    public static void timedJoin(TimeUnit unit, Thread thread, long time, int site) throws InterruptedException {
+        if (unit == null || time <= 0) {
+            unit.timedJoin(thread, time);
+            return;
+        }
+        long milliseconds = unit.toMillis(time);
+        boolean isExact = unit != TimeUnit.NANOSECONDS && unit != TimeUnit.MICROSECONDS;
+        long rest = isExact ? 0 : unit.toNanos(time - unit.convert(milliseconds, TimeUnit.MILLISECONDS));
+        Join.join(thread, milliseconds, (int) rest, site);
     }
 
     // ---- Programs that are started.

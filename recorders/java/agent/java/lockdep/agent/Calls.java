@@ -52,6 +52,7 @@ final class Calls {
     private static final String METAFACTORY = "java/lang/invoke/LambdaMetafactory";
     /** Which of the words of its other method has flags. */
     private static final int FLAGS = 3;
+    private static final Set<String> OF_UNIT = Set.of("timedWait(Ljava/lang/Object;J)V", "timedJoin(Ljava/lang/Thread;J)V");
     private static final Set<String> OF_RUNTIME = Set.of("halt(I)V");
     private static final String WITH_DATA = "defineHiddenClassWithClassData([BLjava/lang/Object;Z" + OPTIONS + ")L" + LOOKUP + ";";
     private static final Set<String> OF_LOOKUP = Set.of("defineHiddenClass([BZ" + OPTIONS + ")L" + LOOKUP + ";", WITH_DATA);
@@ -64,7 +65,7 @@ final class Calls {
     private static final Words NAMES;
 
     static {
-        for (Set<String> some : List.of(OF_LOCK, OF_CONDITION, OF_STAMPED, VIEWS.keySet(), WAITS, OF_THREAD, OF_RUNTIME, OF_LOOKUP)) {
+        for (Set<String> some : List.of(OF_LOCK, OF_CONDITION, OF_STAMPED, VIEWS.keySet(), WAITS, OF_THREAD, OF_UNIT, OF_RUNTIME, OF_LOOKUP)) {
             SIGNATURES.addAll(some);
         }
         Set<String> names = new HashSet<>(Set.of("start", "exec"));
@@ -150,6 +151,7 @@ final class Calls {
         if (OF_CONDITION.contains(signature)) return call.owner.equals(CONDITION) ? CONDITION : null;
         if (OF_STAMPED.contains(signature)) return call.owner.equals(STAMPED) ? STAMPED : null;
         if (VIEWS.containsKey(signature)) return call.owner.equals(STAMPED) ? STAMPED : null;
+        if (OF_UNIT.contains(signature)) return call.owner.equals("java/util/concurrent/TimeUnit") ? call.owner : null;
         return OF_RUNTIME.contains(signature) && call.owner.equals("java/lang/Runtime") ? "java/lang/Runtime" : null;
     }
 
