@@ -71,16 +71,17 @@ public final class Agent {
         }
     }
 
-    /** Classes of the JDK that are to be recorded but were already loaded. */
+    /**
+     * Classes that are to be recorded but were already loaded: of the JDK, and of the program, such as its system class
+     * loader, its security manager and what an agent before this one uses.
+     */
     private static void rewriteLoaded(Rewriter rewriter, Instrumentation machine) {
-        if (!rewriter.asksForJdk()) return;
         for (Class<?> type : machine.getAllLoadedClasses()) {
-            if (!machine.isModifiableClass(type) || !rewriter.isAsked(type.getName().replace('.', '/'),
-                    type.getModule())) continue;
+            if (!rewriter.isAsked(type)) continue;
             try {
                 machine.retransformClasses(type);
-            } catch (UnmodifiableClassException | LinkageError left) {
-                Recording.unrewritten();
+            } catch (UnmodifiableClassException | RuntimeException | LinkageError left) {
+                Rewriter.tellLeft(type.getName(), left);
             }
         }
     }

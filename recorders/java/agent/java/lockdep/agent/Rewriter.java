@@ -33,10 +33,6 @@ final class Rewriter implements ClassFileTransformer {
         for (int at = 0; at < jdk.length; at++) jdk[at] = jdk[at].trim().replace('.', '/');
     }
 
-    boolean asksForJdk() {
-        return jdk.length > 0;
-    }
-
     /** Loads what rewriting needs, so that none of it is loaded in the middle of it. */
     void warmUp() throws IOException {
         try (InputStream file = ClassLoader.getSystemResourceAsStream("java/lockdep/Warm.class")) {
@@ -74,15 +70,27 @@ final class Rewriter implements ClassFileTransformer {
         try {
             return rewrite(loader, file, domain, isOfJdk, isHidden);
         } catch (Throwable error) {
-            Recording.unrewritten();
-            tellWhy(name, error);
+            tellLeft(name, error);
             return null;
         }
     }
 
-    /** Whether a class of the JDK was requested. */
-    boolean isAsked(String name, Module module) {
-        return isOfJdk(module, name) && begins(name, jdk) && (!begins(name, NEVER) || begins(name, ALWAYS));
+    static void tellLeft(String name, Throwable why) {
+        Recording.unrewritten();
+        tellWhy(name, why);
+    }
+
+    /** Whether a class that is loaded is one of the JDK that was requested, or one of the program's, and no array or hidden. */
+    boolean isAsked(Class<?> type) {
+        boolean isOfProgram = isOfProgram(type.getClassLoader());
+        if (!isOfProgram && jdk.length == 0 || type.isArray() || type.getName().indexOf('/') >= 0) return false;
+        String name = type.getName().replace('.', '/');
+        boolean isWanted = isOfJdk(type.getModule(), name) ? begins(name, jdk) : isOfProgram;
+        return isWanted && (!begins(name, NEVER) || begins(name, ALWAYS));
+    }
+
+    private static boolean isOfProgram(ClassLoader loader) {
+        return loader != null && loader != ClassLoader.getPlatformClassLoader();
     }
 
     private static boolean isOfJdk(Module module, String name) {
@@ -106,7 +114,7 @@ final class Rewriter implements ClassFileTransformer {
             if (!isOfJdk && hierarchy.isSynchronizer(type.name, type.superName)) Recording.synchronizer();
             Locking locking = new Locking(type);
             hierarchy.add(type, locking, isHidden);
-            boolean isOfProgram = !isOfJdk && loader != null && loader != ClassLoader.getPlatformClassLoader();
+            boolean isOfProgram = !isOfJdk && isOfProgram(loader);
             Wanted wanted = new Wanted(type, hierarchy, locking, isOfProgram, begins(Locking.BUFFER, jdk));
             if (!wanted.hasAny()) return null;
             if (!hierarchy.findsHooks()) throw new IllegalStateException("its class loader doesn't find java.lockdep.Hooks");
