@@ -34,6 +34,13 @@ public class Earlier {
         }
     }
 
+    /** One with which the JVM doesn't start if there is an agent. */
+    public static class Bare extends ClassLoader {
+        public Bare(ClassLoader parent) {
+            super(parent);
+        }
+    }
+
     /** The security manager, which allows everything. */
     public static class Manager extends SecurityManager {
         @Override

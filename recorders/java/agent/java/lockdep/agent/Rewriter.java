@@ -5,6 +5,7 @@ import java.io.InputStream;
 import java.lang.instrument.ClassFileTransformer;
 import java.lockdep.Recording;
 import java.lockdep.Source;
+import java.lockdep.Variables;
 import java.net.URL;
 import java.security.CodeSource;
 import java.security.ProtectionDomain;
@@ -167,7 +168,7 @@ final class Rewriter implements ClassFileTransformer {
     }
 
     private static void tellWhy(String what, Throwable why) {
-        if (System.getenv("LOCKDEP_JAVA_WHY") != null) new Error("record: " + what + " stays as it is", why).printStackTrace();
+        if (Variables.get("LOCKDEP_JAVA_WHY") != null) new Error("record: " + what + " stays as it is", why).printStackTrace();
     }
 
     /** The folder or jar of a class; null if it is of none. */
