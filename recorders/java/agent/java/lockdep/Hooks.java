@@ -6,6 +6,7 @@ import java.util.concurrent.locks.Condition;
 import java.util.concurrent.locks.Lock;
 import java.util.concurrent.locks.ReadWriteLock;
 import java.util.concurrent.locks.ReentrantLock;
+import java.util.concurrent.locks.ReentrantReadWriteLock.ReadLock;
 import java.util.concurrent.locks.ReentrantReadWriteLock.WriteLock;
 import java.util.concurrent.locks.StampedLock;
 
@@ -294,7 +295,7 @@ public final class Hooks {
         if (task == null) return;
         try {
             Known known = task.lock(lock);
-            if (!task.gave(known, site) && mayRelease(lock)) task.gaveUnseen(known);
+            if (!task.gave(known, site) && mayRelease(lock, known)) task.gaveUnseen(known);
         } catch (Throwable error) {
             task.abandon(error);
             return;
@@ -303,9 +304,13 @@ public final class Hooks {
     }
 
     /** Whether the running thread isn't known to be refused when it releases a lock. */
-    private static boolean mayRelease(Lock lock) {
+    private static boolean mayRelease(Lock lock, Known known) {
         if (lock.getClass() == ReentrantLock.class) return ((ReentrantLock) lock).isHeldByCurrentThread();
-        return !(lock instanceof WriteLock) || ((WriteLock) lock).isHeldByCurrentThread();
+        if (lock instanceof WriteLock) return ((WriteLock) lock).isHeldByCurrentThread();
+        if (lock instanceof ReadLock) return Known.mayRead((ReadLock) lock);
+        Object whole = known.target.get();
+        if (!(whole instanceof StampedLock)) return true;
+        return known.isReader ? ((StampedLock) whole).isReadLocked() : ((StampedLock) whole).isWriteLocked();
     }
 
     /** A condition of a lock was made. */
