@@ -1,5 +1,6 @@
 package java.lockdep;
 
+import java.time.Duration;
 import java.util.Date;
 import java.util.concurrent.TimeUnit;
 import java.util.concurrent.locks.Condition;
@@ -182,6 +183,17 @@ public final class Hooks {
 
     public static void join(Object thread, long milliseconds, int nanoseconds, int site) throws InterruptedException {
         Join.join((Thread) thread, milliseconds, nanoseconds, site);
+    }
+
+    /** As Thread has it, in Java 11 not yet. */
+    public static boolean join(Object thread, Duration time, int site) throws InterruptedException {
+        long nanoseconds = TimeUnit.NANOSECONDS.convert(time);
+        Thread joined = (Thread) thread;
+        Thread.State state = joined.getState();
+        if (state == Thread.State.NEW) throw new IllegalThreadStateException("Thread not started");
+        if (state == Thread.State.TERMINATED || nanoseconds <= 0) return state == Thread.State.TERMINATED;
+        Join.join(joined, nanoseconds / 1000000, (int) (nanoseconds % 1000000), site);
+        return joined.getState() == Thread.State.TERMINATED;
     }
 
     /** Of TimeUnit, which splits the time as here. */

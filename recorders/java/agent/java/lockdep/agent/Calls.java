@@ -52,6 +52,8 @@ final class Calls {
     private static final String METAFACTORY = "java/lang/invoke/LambdaMetafactory";
     /** Which of the words of its other method has flags. */
     private static final int FLAGS = 3;
+    /** Since Java 19. */
+    private static final String JOIN_FOR = "join(Ljava/time/Duration;)Z";
     private static final Set<String> OF_UNIT = Set.of("timedWait(Ljava/lang/Object;J)V", "timedJoin(Ljava/lang/Thread;J)V");
     private static final Set<String> OF_RUNTIME = Set.of("halt(I)V");
     private static final String WITH_DATA = "defineHiddenClassWithClassData([BLjava/lang/Object;Z" + OPTIONS + ")L" + LOOKUP + ";";
@@ -60,7 +62,7 @@ final class Calls {
     private static final Set<String> STAYING = Set.of("lock()V", "unlock()V", "tryLock()Z", MAKER, "start()V");
     private static final Words STARTERS = new Words(Set.of("java/lang/Runtime", "java/lang/ProcessBuilder"));
     private static final Words COLLECTIONS = new Words(Set.of("java/util/Collections"));
-    private static final Set<String> SIGNATURES = new HashSet<>(Set.of(MAKER));
+    private static final Set<String> SIGNATURES = new HashSet<>(Set.of(MAKER, JOIN_FOR));
     /** The names of all calls that are rewritten. */
     private static final Words NAMES;
 
@@ -142,7 +144,7 @@ final class Calls {
         if (WAITS.contains(signature)) return "java/lang/Object";
         // (as an object of any class, so that the JVM needn't load that class to see that it is a thread, which no
         // interface is)
-        if (OF_THREAD.contains(signature)) {
+        if (OF_THREAD.contains(signature) || signature.equals(JOIN_FOR)) {
             boolean mayBeThread = call.opcode == Opcodes.INVOKEVIRTUAL && hierarchy.isThread(call.owner);
             return mayBeThread ? "java/lang/Object" : null;
         }
