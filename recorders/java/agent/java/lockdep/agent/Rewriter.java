@@ -81,10 +81,14 @@ final class Rewriter implements ClassFileTransformer {
         tellWhy(name, why);
     }
 
-    /** Whether a class that is loaded is one of the JDK that was requested, or one of the program's, and no array or hidden. */
+    /**
+     * Whether a loaded class is to be recorded: one of the program's, or of those of the JDK that were requested. Hidden
+     * classes can't be changed, and arrays have no code.
+     */
     boolean isAsked(Class<?> type) {
         boolean isOfProgram = isOfProgram(type.getClassLoader());
-        if (!isOfProgram && jdk.length == 0 || type.isArray() || type.getName().indexOf('/') >= 0) return false;
+        if (!isOfProgram && jdk.length == 0) return false;
+        if (type.isArray() || type.isPrimitive() || type.getName().indexOf('/') >= 0) return false;
         String name = type.getName().replace('.', '/');
         boolean isWanted = isOfJdk(type.getModule(), name) ? begins(name, jdk) : isOfProgram;
         return isWanted && (!begins(name, NEVER) || begins(name, ALWAYS));
