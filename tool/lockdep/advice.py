@@ -69,7 +69,7 @@ ADVICE: dict[str, str] = {
 # Where one recorder has another advice.
 OF_RECORDERS: dict[str, dict[str, str]] = {
     "pthread": {"beyond-classes": "name classes by fewer callers, as by --frames 1, or " + LESS},
-    "java": {"interrupted": "give threads more stack, as by -Xss4m, or the program more heap, and end none by Thread.stop"},
+    "java": {"interrupted": "give threads more stack, as by -Xss4m, which doesn't help endless recursion, or the program more heap, and end none by Thread.stop"},
 }
 
 

@@ -46,8 +46,9 @@ REASONS: dict[str, str] = {
     "python-nothing": "it took no lock of threading or asyncio; the interpreter's own are seen by `--recorder pthread`",
     "python-off": "no Python was started, or one without its environment, as by -I, -E, -S or env -i",
     "java-nothing": "its own classes took no monitor and no lock of java.util.concurrent.locks, but perhaps by reflection or a MethodHandle, which "
-                    "isn't seen; those of the JDK are seen if LOCKDEP_JAVA_JDK names them ({README:java})",
-    "java-off": "no Java was started, or one without its environment, as by env -i",
+                    "isn't seen, or none of them was loaded; those of the JDK are seen if LOCKDEP_JAVA_JDK names them ({README:java})",
+    "java-off": "no Java came as far as loading the recorder: none was started, or one without its environment, as by env -i, or it ended "
+                "before that",
     "rust-nothing": "it took none of the locks of the crate lockdep_record, as if what takes locks uses std::sync itself",
     "rust-off": "nothing that was run is built with the crate lockdep_record and `--cfg lockdep`, as by RUSTFLAGS='--cfg lockdep', or it runs "
                 "without its environment, as by env -i",

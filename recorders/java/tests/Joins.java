@@ -2,7 +2,7 @@ import java.util.concurrent.locks.ReentrantLock;
 
 /**
  * Threads that are joined, in ways that differ by what is held meanwhile: the lock that the thread takes (held, timed,
- * hangs, and ended, whose thread has ended before), one that it doesn't take (other), none (none); by a thread that
+ * unit, hangs, and ended, whose thread has ended before), one that it doesn't take (other), none (none); by a thread that
  * joins the one that takes it (passed); and threads that take none (idle), of which there are many before one that
  * does (many).
  */
@@ -111,6 +111,12 @@ public class Joins {
             worker.start();
             pause();
             joinWithState(worker);
+        }
+        if (way.equals("unit")) {
+            Thread thread = started(Joins::work);
+            state.lock();
+            java.util.concurrent.TimeUnit.SECONDS.timedJoin(thread, 5);
+            state.unlock();
         }
     }
 }

@@ -1,11 +1,13 @@
 package java.lockdep;
 
+import java.time.Duration;
 import java.util.Date;
 import java.util.concurrent.TimeUnit;
 import java.util.concurrent.locks.Condition;
 import java.util.concurrent.locks.Lock;
 import java.util.concurrent.locks.ReadWriteLock;
 import java.util.concurrent.locks.ReentrantLock;
+import java.util.concurrent.locks.ReentrantReadWriteLock.ReadLock;
 import java.util.concurrent.locks.ReentrantReadWriteLock.WriteLock;
 import java.util.concurrent.locks.StampedLock;
 
@@ -83,7 +85,17 @@ public final class Hooks {
         }
     }
 
-    private static int suspend(Object object) {
+    /** Of TimeUnit, which waits on the object. */
+    public static void timedWait(TimeUnit unit, Object object, long time, int site) throws InterruptedException {
+        int levels = time > 0 ? suspend(object) : 0;
+        try {
+            unit.timedWait(object, time);
+        } finally {
+            resume(object, levels, site);
+        }
+    }
+
+    static int suspend(Object object) {
         Task task = object == null ? null : Task.begin();
         if (task == null) return 0;
         int levels = 0;
@@ -97,7 +109,7 @@ public final class Hooks {
         return levels;
     }
 
-    private static void resume(Object object, int levels, int site) {
+    static void resume(Object object, int levels, int site) {
         Task task = levels == 0 ? null : Task.begin();
         if (task == null) return;
         try {
@@ -171,6 +183,29 @@ public final class Hooks {
 
     public static void join(Object thread, long milliseconds, int nanoseconds, int site) throws InterruptedException {
         Join.join((Thread) thread, milliseconds, nanoseconds, site);
+    }
+
+    /** As Thread has it, in Java 11 not yet. */
+    public static boolean join(Object thread, Duration time, int site) throws InterruptedException {
+        long nanoseconds = TimeUnit.NANOSECONDS.convert(time);
+        Thread joined = (Thread) thread;
+        Thread.State state = joined.getState();
+        if (state == Thread.State.NEW) throw new IllegalThreadStateException("Thread not started");
+        if (state == Thread.State.TERMINATED || nanoseconds <= 0) return state == Thread.State.TERMINATED;
+        Join.join(joined, nanoseconds / 1000000, (int) (nanoseconds % 1000000), site);
+        return joined.getState() == Thread.State.TERMINATED;
+    }
+
+    /** Of TimeUnit, which splits the time as here. */
+    public static void timedJoin(TimeUnit unit, Thread thread, long time, int site) throws InterruptedException {
+        if (unit == null || time <= 0) {
+            unit.timedJoin(thread, time);
+            return;
+        }
+        long milliseconds = unit.toMillis(time);
+        boolean isExact = unit != TimeUnit.NANOSECONDS && unit != TimeUnit.MICROSECONDS;
+        long rest = isExact ? 0 : unit.toNanos(time - unit.convert(milliseconds, TimeUnit.MILLISECONDS));
+        Join.join(thread, milliseconds, (int) rest, site);
     }
 
     // ---- Programs that are started.
@@ -272,7 +307,7 @@ public final class Hooks {
         if (task == null) return;
         try {
             Known known = task.lock(lock);
-            if (!task.gave(known, site) && mayRelease(lock)) task.gaveUnseen(known);
+            if (!task.gave(known, site) && mayRelease(lock, known)) task.gaveUnseen(known);
         } catch (Throwable error) {
             task.abandon(error);
             return;
@@ -281,9 +316,13 @@ public final class Hooks {
     }
 
     /** Whether the running thread isn't known to be refused when it releases a lock. */
-    private static boolean mayRelease(Lock lock) {
+    private static boolean mayRelease(Lock lock, Known known) {
         if (lock.getClass() == ReentrantLock.class) return ((ReentrantLock) lock).isHeldByCurrentThread();
-        return !(lock instanceof WriteLock) || ((WriteLock) lock).isHeldByCurrentThread();
+        if (lock instanceof WriteLock) return ((WriteLock) lock).isHeldByCurrentThread();
+        if (lock instanceof ReadLock) return Known.mayRead((ReadLock) lock);
+        Object whole = known.target.get();
+        if (!(whole instanceof StampedLock)) return true;
+        return known.isReader ? ((StampedLock) whole).isReadLocked() : ((StampedLock) whole).isWriteLocked();
     }
 
     /** A condition of a lock was made. */

@@ -48,8 +48,31 @@ final class Join {
         return thread.isAlive() ? Modes.Manner.WAITS : Modes.Manner.FINDS_ENDED;
     }
 
-    /** Waits for a thread; 0 milliseconds and nanoseconds are no limit. */
+    /**
+     * Waits for a thread; 0 milliseconds and nanoseconds are no limit. The JDK does that by waits on the thread's own
+     * monitor: if the caller holds it, it is released meanwhile.
+     */
     static void join(Thread thread, long milliseconds, int nanoseconds, int site) throws InterruptedException {
+        int levels = releasesMonitor(thread) ? Hooks.suspend(thread) : 0;
+        if (levels == 0) {
+            joinRecorded(thread, milliseconds, nanoseconds, site);
+            return;
+        }
+        try {
+            joinRecorded(thread, milliseconds, nanoseconds, site);
+        } finally {
+            Hooks.resume(thread, levels, site);
+        }
+    }
+
+    /** Whether a join of a thread releases its monitor: neither an ended thread nor a virtual one is waited for by that. */
+    private static boolean releasesMonitor(Thread thread) {
+        return thread != null && Thread.holdsLock(thread) && thread.isAlive()
+                && !thread.getClass().getName().equals("java.lang.VirtualThread");
+    }
+
+    private static void joinRecorded(Thread thread, long milliseconds, int nanoseconds, int site)
+            throws InterruptedException {
         boolean isTimed = milliseconds != 0 || nanoseconds != 0;
         Join join = of(thread, isTimed, site);
         boolean isShort = isTimed && milliseconds <= PATIENCE;

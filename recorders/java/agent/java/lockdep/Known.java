@@ -2,6 +2,7 @@ package java.lockdep;
 
 import java.lang.ref.WeakReference;
 import java.lang.reflect.Field;
+import java.lang.reflect.Method;
 import java.util.concurrent.locks.Condition;
 import java.util.concurrent.locks.Lock;
 import java.util.concurrent.locks.ReadWriteLock;
@@ -177,6 +178,19 @@ final class Known extends WeakReference<Object> {
             return lock;
         } catch (IllegalAccessException closed) {
             return lock;
+        }
+    }
+
+    /** Whether the running thread holds a read lock, or that can't be known. */
+    static boolean mayRead(ReentrantReadWriteLock.ReadLock lock) {
+        Field reader = ofReader;
+        if (reader == null) return true;
+        try {
+            Method count = reader.getType().getDeclaredMethod("getReadHoldCount");
+            count.setAccessible(true);
+            return (int) count.invoke(reader.get(lock)) > 0;
+        } catch (ReflectiveOperationException | RuntimeException closed) {
+            return true;
         }
     }
 

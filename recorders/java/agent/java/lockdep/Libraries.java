@@ -36,7 +36,7 @@ final class Libraries {
 
     /** Whether the recorder of pthreads, if it is preloaded, looks at libraries: by the rule of recorders/pthread/preload/libraries.c. */
     private static boolean areWatched() throws IOException {
-        String folder = System.getenv("LOCKDEP_LIBRARIES");
+        String folder = Variables.get("LOCKDEP_LIBRARIES");
         return folder != null && !folder.isEmpty() && new File("/proc/self/exe").getCanonicalFile().getName().equals("java");
     }
 

@@ -206,7 +206,7 @@ public final class Recording {
             if (folder != null && !program.isAbsolute()) program = new File(folder, words[0]);
             words[0] = program.getAbsolutePath();
         }
-        String options = System.getenv("JAVA_TOOL_OPTIONS");
+        String options = Variables.get("JAVA_TOOL_OPTIONS");
         StringBuilder text = new StringBuilder("X started 1 ")
                 .append(options != null && options.contains("lockdep-agent") ? "recorded " : "- ");
         text.append(onOneLine(words[0]));

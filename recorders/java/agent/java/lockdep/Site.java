@@ -309,12 +309,7 @@ public final class Site {
 
     /** A name without spaces and the like, as required for fields of the file. */
     private static String visible(String text) {
-        StringBuilder kept = new StringBuilder();
-        for (int at = 0; at < text.length(); at++) {
-            char letter = text.charAt(at);
-            kept.append(letter <= ' ' || letter == 127 ? '?' : letter);
-        }
-        return kept.toString();
+        return Source.onOneLine(text).replace(' ', '?');
     }
 
     /** A name whose packages are shortened to their first letters, one after the other, until it fits. */

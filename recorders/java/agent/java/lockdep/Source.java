@@ -3,6 +3,7 @@ package java.lockdep;
 import java.io.File;
 import java.util.ArrayList;
 import java.util.List;
+import java.util.Locale;
 import java.util.concurrent.ConcurrentHashMap;
 
 /** The file that a class was compiled from. Its location is looked up when it is first needed. */
@@ -65,6 +66,20 @@ public final class Source {
         return end < 0 ? name : name.substring(0, end);
     }
 
+    /** A text without what ends a line or a field of the file: for such a letter there is a `%`, and its number. */
+    static String onOneLine(String text) {
+        StringBuilder changed = null;
+        for (int at = 0; at < text.length(); at++) {
+            char letter = text.charAt(at);
+            boolean isKept = !Character.isISOControl(letter) && letter != '\u2028' && letter != '\u2029';
+            if (isKept && changed == null) continue;
+            if (changed == null) changed = new StringBuilder(text.substring(0, at));
+            if (isKept) changed.append(letter);
+            else changed.append(letter < 16 ? "%0" : "%").append(Integer.toHexString(letter).toUpperCase(Locale.ROOT));
+        }
+        return changed == null ? text : changed.toString();
+    }
+
     /** The name of the class without its package. */
     String shortName() {
         return className.substring(className.lastIndexOf('.') + 1);
@@ -79,7 +94,7 @@ public final class Source {
         if (path == null) {
             String inPackage = className.substring(0, className.lastIndexOf('.') + 1).replace('.', '/') + fileName;
             String found = isOfJdk ? null : find(inPackage);
-            path = found == null ? inPackage : found;
+            path = onOneLine(found == null ? inPackage : found);
         }
         return path;
     }

@@ -105,7 +105,7 @@ final class Task {
     /** What the thread is called, without characters that would end a line. */
     String threadName() {
         Thread of = thread.get();
-        return of == null ? "" : of.getName().replace('\n', '?').replace('\r', '?');
+        return of == null ? "" : Source.onOneLine(of.getName());
     }
 
     @Within

@@ -6,6 +6,7 @@ import java.lang.instrument.Instrumentation;
 import java.lang.instrument.UnmodifiableClassException;
 import java.lockdep.Provoke;
 import java.lockdep.Recording;
+import java.lockdep.Variables;
 import java.util.Map;
 import java.util.Set;
 
@@ -24,8 +25,8 @@ public final class Agent {
     }
 
     public static void begin(String folder, Instrumentation machine) throws IOException {
-        String raw = System.getenv("LOCKDEP_JAVA");
-        String plan = System.getenv("LOCKDEP_PROVOKE_PLAN");
+        String raw = Variables.get("LOCKDEP_JAVA");
+        String plan = Variables.get("LOCKDEP_PROVOKE_PLAN");
         File processes = folder == null || folder.isEmpty() ? raw == null ? null : new File(raw) : folderOf(folder);
         boolean isRecorded = plan == null && processes != null && processes.isDirectory();
         if (!isRecorded && plan == null || Recording.hasBegun()) return;
@@ -37,7 +38,7 @@ public final class Agent {
             Recording.begin(processes, words("LOCKDEP_JAVA_SOURCES", File.pathSeparator));
             Recording.atEnd(LAST_HOOK);
         } else {
-            Provoke.begin(System.getenv("LOCKDEP_PROVOKE_TABLE"), plan, System.getenv("LOCKDEP_PROVOKE_PAUSE"));
+            Provoke.begin(Variables.get("LOCKDEP_PROVOKE_TABLE"), plan, Variables.get("LOCKDEP_PROVOKE_PAUSE"));
             Recording.beginUnwritten(words("LOCKDEP_JAVA_SOURCES", File.pathSeparator));
         }
         Hidden.begin(rewriter);
@@ -46,7 +47,7 @@ public final class Agent {
     }
 
     private static String[] words(String variable, String separator) {
-        String text = System.getenv(variable);
+        String text = Variables.get(variable);
         return text == null || text.isEmpty() ? new String[0] : text.split(separator);
     }
 
@@ -71,16 +72,17 @@ public final class Agent {
         }
     }
 
-    /** Classes of the JDK that are to be recorded but were already loaded. */
+    /**
+     * Classes that are to be recorded but were already loaded: of the JDK, and of the program, such as its system class
+     * loader, its security manager and what an agent before this one uses.
+     */
     private static void rewriteLoaded(Rewriter rewriter, Instrumentation machine) {
-        if (!rewriter.asksForJdk()) return;
         for (Class<?> type : machine.getAllLoadedClasses()) {
-            if (!machine.isModifiableClass(type) || !rewriter.isAsked(type.getName().replace('.', '/'),
-                    type.getModule())) continue;
+            if (!rewriter.isAsked(type)) continue;
             try {
                 machine.retransformClasses(type);
-            } catch (UnmodifiableClassException | LinkageError left) {
-                Recording.unrewritten();
+            } catch (UnmodifiableClassException | RuntimeException | LinkageError left) {
+                Rewriter.tellLeft(type.getName(), left);
             }
         }
     }

@@ -52,6 +52,9 @@ final class Calls {
     private static final String METAFACTORY = "java/lang/invoke/LambdaMetafactory";
     /** Which of the words of its other method has flags. */
     private static final int FLAGS = 3;
+    /** Since Java 19. */
+    private static final String JOIN_FOR = "join(Ljava/time/Duration;)Z";
+    private static final Set<String> OF_UNIT = Set.of("timedWait(Ljava/lang/Object;J)V", "timedJoin(Ljava/lang/Thread;J)V");
     private static final Set<String> OF_RUNTIME = Set.of("halt(I)V");
     private static final String WITH_DATA = "defineHiddenClassWithClassData([BLjava/lang/Object;Z" + OPTIONS + ")L" + LOOKUP + ";";
     private static final Set<String> OF_LOOKUP = Set.of("defineHiddenClass([BZ" + OPTIONS + ")L" + LOOKUP + ";", WITH_DATA);
@@ -59,12 +62,12 @@ final class Calls {
     private static final Set<String> STAYING = Set.of("lock()V", "unlock()V", "tryLock()Z", MAKER, "start()V");
     private static final Words STARTERS = new Words(Set.of("java/lang/Runtime", "java/lang/ProcessBuilder"));
     private static final Words COLLECTIONS = new Words(Set.of("java/util/Collections"));
-    private static final Set<String> SIGNATURES = new HashSet<>(Set.of(MAKER));
+    private static final Set<String> SIGNATURES = new HashSet<>(Set.of(MAKER, JOIN_FOR));
     /** The names of all calls that are rewritten. */
     private static final Words NAMES;
 
     static {
-        for (Set<String> some : List.of(OF_LOCK, OF_CONDITION, OF_STAMPED, VIEWS.keySet(), WAITS, OF_THREAD, OF_RUNTIME, OF_LOOKUP)) {
+        for (Set<String> some : List.of(OF_LOCK, OF_CONDITION, OF_STAMPED, VIEWS.keySet(), WAITS, OF_THREAD, OF_UNIT, OF_RUNTIME, OF_LOOKUP)) {
             SIGNATURES.addAll(some);
         }
         Set<String> names = new HashSet<>(Set.of("start", "exec"));
@@ -141,7 +144,7 @@ final class Calls {
         if (WAITS.contains(signature)) return "java/lang/Object";
         // (as an object of any class, so that the JVM needn't load that class to see that it is a thread, which no
         // interface is)
-        if (OF_THREAD.contains(signature)) {
+        if (OF_THREAD.contains(signature) || signature.equals(JOIN_FOR)) {
             boolean mayBeThread = call.opcode == Opcodes.INVOKEVIRTUAL && hierarchy.isThread(call.owner);
             return mayBeThread ? "java/lang/Object" : null;
         }
@@ -150,6 +153,7 @@ final class Calls {
         if (OF_CONDITION.contains(signature)) return call.owner.equals(CONDITION) ? CONDITION : null;
         if (OF_STAMPED.contains(signature)) return call.owner.equals(STAMPED) ? STAMPED : null;
         if (VIEWS.containsKey(signature)) return call.owner.equals(STAMPED) ? STAMPED : null;
+        if (OF_UNIT.contains(signature)) return call.owner.equals("java/util/concurrent/TimeUnit") ? call.owner : null;
         return OF_RUNTIME.contains(signature) && call.owner.equals("java/lang/Runtime") ? "java/lang/Runtime" : null;
     }
 

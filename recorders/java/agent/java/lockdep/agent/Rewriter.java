@@ -5,6 +5,7 @@ import java.io.InputStream;
 import java.lang.instrument.ClassFileTransformer;
 import java.lockdep.Recording;
 import java.lockdep.Source;
+import java.lockdep.Variables;
 import java.net.URL;
 import java.security.CodeSource;
 import java.security.ProtectionDomain;
@@ -31,10 +32,6 @@ final class Rewriter implements ClassFileTransformer {
     Rewriter(String[] jdk) {
         this.jdk = jdk;
         for (int at = 0; at < jdk.length; at++) jdk[at] = jdk[at].trim().replace('.', '/');
-    }
-
-    boolean asksForJdk() {
-        return jdk.length > 0;
     }
 
     /** Loads what rewriting needs, so that none of it is loaded in the middle of it. */
@@ -74,15 +71,31 @@ final class Rewriter implements ClassFileTransformer {
         try {
             return rewrite(loader, file, domain, isOfJdk, isHidden);
         } catch (Throwable error) {
-            Recording.unrewritten();
-            tellWhy(name, error);
+            tellLeft(name, error);
             return null;
         }
     }
 
-    /** Whether a class of the JDK was requested. */
-    boolean isAsked(String name, Module module) {
-        return isOfJdk(module, name) && begins(name, jdk) && (!begins(name, NEVER) || begins(name, ALWAYS));
+    static void tellLeft(String name, Throwable why) {
+        Recording.unrewritten();
+        tellWhy(name, why);
+    }
+
+    /**
+     * Whether a loaded class is to be recorded: one of the program's, or of those of the JDK that were requested. Hidden
+     * classes can't be changed, and arrays have no code.
+     */
+    boolean isAsked(Class<?> type) {
+        boolean isOfProgram = isOfProgram(type.getClassLoader());
+        if (!isOfProgram && jdk.length == 0) return false;
+        if (type.isArray() || type.isPrimitive() || type.getName().indexOf('/') >= 0) return false;
+        String name = type.getName().replace('.', '/');
+        boolean isWanted = isOfJdk(type.getModule(), name) ? begins(name, jdk) : isOfProgram;
+        return isWanted && (!begins(name, NEVER) || begins(name, ALWAYS));
+    }
+
+    private static boolean isOfProgram(ClassLoader loader) {
+        return loader != null && loader != ClassLoader.getPlatformClassLoader();
     }
 
     private static boolean isOfJdk(Module module, String name) {
@@ -106,7 +119,7 @@ final class Rewriter implements ClassFileTransformer {
             if (!isOfJdk && hierarchy.isSynchronizer(type.name, type.superName)) Recording.synchronizer();
             Locking locking = new Locking(type);
             hierarchy.add(type, locking, isHidden);
-            boolean isOfProgram = !isOfJdk && loader != null && loader != ClassLoader.getPlatformClassLoader();
+            boolean isOfProgram = !isOfJdk && isOfProgram(loader);
             Wanted wanted = new Wanted(type, hierarchy, locking, isOfProgram, begins(Locking.BUFFER, jdk));
             if (!wanted.hasAny()) return null;
             if (!hierarchy.findsHooks()) throw new IllegalStateException("its class loader doesn't find java.lockdep.Hooks");
@@ -159,7 +172,7 @@ final class Rewriter implements ClassFileTransformer {
     }
 
     private static void tellWhy(String what, Throwable why) {
-        if (System.getenv("LOCKDEP_JAVA_WHY") != null) new Error("record: " + what + " stays as it is", why).printStackTrace();
+        if (Variables.get("LOCKDEP_JAVA_WHY") != null) new Error("record: " + what + " stays as it is", why).printStackTrace();
     }
 
     /** The folder or jar of a class; null if it is of none. */
