@@ -45,13 +45,32 @@ final class Rewriter implements ClassFileTransformer {
     }
 
     @Override
-    public byte[] transform(Module module, ClassLoader loader, String name, Class<?> redefined,
+    public byte[] transform(Module module, ClassLoader loader, String named, Class<?> redefined,
             ProtectionDomain domain, byte[] file) {
-        if (name == null || file == null) return null;
+        if (file == null) return null;
+        String name = named != null ? named : isMadeByJdk(loader) ? null : nameIn(file);
+        if (name == null) return null;
         boolean isOfJdk = isOfJdk(module, name);
         if (isOfJdk && !begins(name, jdk)) return null;
         if (begins(name, NEVER) && !begins(name, ALWAYS)) return null;
         return rewriteOrTell(name, loader, file, domain, isOfJdk, false);
+    }
+
+    /** Whether a loader is one that the JDK has for what it makes itself, as from style sheets, and defines without a name. */
+    private static boolean isMadeByJdk(ClassLoader loader) {
+        Module own = loader == null ? Object.class.getModule() : loader.getClass().getModule();
+        return own != Object.class.getModule() && isOfJdk(own, "");
+    }
+
+    /** The name of a class that a loader defines without saying it; null if the file has none, and so can't be rewritten. */
+    private static String nameIn(byte[] file) {
+        try {
+            return new ClassFile(file).name;
+        } catch (RuntimeException unreadable) {
+            Recording.unrewritten();
+            tellWhy("a class without a name", unreadable);
+            return null;
+        }
     }
 
     /** The file of a hidden class that the JVM shows to no agent, as it is to be defined beside a class; null if it stays as it is. */
