@@ -108,7 +108,14 @@ final class Calls {
         int method = type.part(handle, 2);
         if (isMaker(type, handle)) return MAKERS.contains(type.owner(method).concat(type.descriptor(method)));
         if (kind != Opcodes.H_INVOKEVIRTUAL && kind != Opcodes.H_INVOKEINTERFACE) return false;
-        return isOfLock(type.owner(method), type.nameOfMember(method), type.descriptor(method));
+        return NAMES.has(type, type.part(type.part(method, 3), 1)) && isReplaced(type, method);
+    }
+
+    /** What a reference calls, if it isn't one to a constructor. */
+    static Call referred(ClassFile type, int handle) {
+        int method = type.part(handle, 2);
+        int opcode = type.kindOfHandle(handle) == Opcodes.H_INVOKEINTERFACE ? Opcodes.INVOKEINTERFACE : Opcodes.INVOKEVIRTUAL;
+        return new Call(opcode, type.owner(method), type.nameOfMember(method), type.descriptor(method));
     }
 
     /** The method of References that makes an object of a class. */
@@ -181,19 +188,18 @@ final class Calls {
         return call.opcode == Opcodes.INVOKESTATIC && call.name.startsWith("synchronized") && call.descriptor.endsWith(";");
     }
 
-    /** Whether a reference to a method is one to a call that is replaced. */
-    static boolean isOfLock(String owner, String name, String descriptor) {
-        return Hierarchy.LOCK.contains(owner) && OF_LOCK.contains(name + descriptor);
-    }
-
     /**
-     * The class that is used for a reference's object, which it may already have; null if that isn't one of
-     * References.
+     * What makes a reference, with its place as the first word, and of this class if it already has its object; null if it
+     * has more than that.
      */
-    static String objectOf(String descriptor, String owner) {
-        if (descriptor.startsWith("()")) return owner;
-        String object = descriptor.charAt(1) == 'L' ? descriptor.substring(2, descriptor.indexOf(';')) : "";
-        return Hierarchy.LOCK.contains(object) ? object : null;
+    static String withPlace(String descriptor, String receiver) {
+        int end = descriptor.indexOf(')');
+        if (end == 1) return "(I" + descriptor.substring(end);
+        int kind = 1;
+        while (descriptor.charAt(kind) == '[') kind++;
+        boolean isNamed = descriptor.charAt(kind) == 'L';
+        boolean isOne = end == 1 + (isNamed ? descriptor.indexOf(';') : kind);
+        return isOne && (isNamed || kind > 1) ? "(IL" + receiver + ";" + descriptor.substring(end) : null;
     }
 
     /** Whether a call defines a hidden class. */

@@ -268,8 +268,8 @@ final class MethodRewriter {
     }
 
     /**
-     * References to methods of locks, such as `lock::unlock`, or to their constructors become references to what is called
-     * instead, which gets their place first.
+     * References to methods of locks, such as `lock::unlock`, of conditions and of threads, or to constructors of locks, become
+     * references to what is called instead, which gets their place first. None of their words but their object may be known.
      */
     private void rewriteReferences(int at) {
         int call = type.number(at + 1);
@@ -279,29 +279,27 @@ final class MethodRewriter {
         for (int word = 0; word < type.number(bootstrap + 2); word++) {
             int handle = type.number(bootstrap + 4 + 2 * word);
             if (type.kind(handle) != ClassFile.HANDLE || !Calls.mayBeReference(type, handle)) continue;
-            int instead = Calls.isMaker(type, handle) ? maker(made, handle) : caller(made, handle);
-            if (instead == 0) continue;
-            int site = Calls.isMaker(type, handle) ? siteOfMade(-1) : Site.add(source, name, where(), 1);
-            Bytes added = number(before(at), site);
+            boolean isMaker = Calls.isMaker(type, handle);
+            String receiver = isMaker ? "" : Calls.receiver(Calls.referred(type, handle), wanted.hierarchy);
+            String changed = receiver == null || isMaker && !made.startsWith("()") ? null : Calls.withPlace(made, receiver);
+            if (changed == null) continue;
+            int instead = isMaker ? maker(handle) : caller(receiver, handle);
+            Bytes added = number(before(at), isMaker ? siteOfMade(-1) : Site.add(source, name, where(), 1));
             if (!made.startsWith("()")) added.put(Opcodes.SWAP);
-            int changed = constants.dynamicCall(call, "(I" + made.substring(1), word, instead);
-            code.instead(at).put(Opcodes.INVOKEDYNAMIC).putShort(changed).putShort(0);
+            code.instead(at).put(Opcodes.INVOKEDYNAMIC).putShort(constants.dynamicCall(call, changed, word, instead)).putShort(0);
             return;
         }
     }
 
-    /** What is called instead of a method of a lock; 0 if that isn't one of References. */
-    private int caller(String made, int handle) {
+    /** What is called instead of a method of a lock, a condition or a thread. */
+    private int caller(String receiver, int handle) {
         int called = type.part(handle, 2);
-        String object = Calls.objectOf(made, type.owner(called));
-        if (object == null) return 0;
-        String words = "(IL" + object + ";" + type.descriptor(called).substring(1);
+        String words = "(IL" + receiver + ";" + type.descriptor(called).substring(1);
         return constants.handle(constants.method(Calls.REFERENCES, type.nameOfMember(called), words));
     }
 
-    /** What is called instead of a constructor; 0 if a word of its call is already known. */
-    private int maker(String made, int handle) {
-        if (!made.startsWith("()")) return 0;
+    /** What is called instead of a constructor. */
+    private int maker(int handle) {
         int constructor = type.part(handle, 2);
         String owner = type.owner(constructor);
         String words = type.descriptor(constructor).substring(1).replace(")V", ")L" + owner + ";");
