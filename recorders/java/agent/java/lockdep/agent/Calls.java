@@ -36,6 +36,13 @@ final class Calls {
     private static final Map<String, String> VIEWS = new HashMap<>();
     private static final Set<String> WAITS = Set.of("wait()V", "wait(J)V", "wait(JI)V");
     private static final Set<String> OF_THREAD = Set.of("start()V", "join()V", "join(J)V", "join(JI)V");
+    static final String THREAD = "java/lang/Thread";
+    /** What makes a thread and starts it at once, since Java 21. */
+    private static final String BUILDER = THREAD + "$Builder";
+    static final String OF_VIRTUAL = BUILDER + "$OfVirtual";
+    private static final Set<String> BUILDERS = Set.of(BUILDER, BUILDER + "$OfPlatform", OF_VIRTUAL);
+    private static final String MAKES_AND_STARTS = "start(Ljava/lang/Runnable;)L" + THREAD + ";";
+    private static final String STARTS_VIRTUAL = "startVirtualThread(Ljava/lang/Runnable;)L" + THREAD + ";";
 
     static {
         for (String view : new String[] {"asReadLock()L" + LOCK + ";", "asWriteLock()L" + LOCK + ";",
@@ -59,7 +66,7 @@ final class Calls {
     private static final Set<String> STAYING = Set.of("lock()V", "unlock()V", "tryLock()Z", MAKER, "start()V");
     private static final Words STARTERS = new Words(Set.of("java/lang/Runtime", "java/lang/ProcessBuilder"));
     private static final Words COLLECTIONS = new Words(Set.of("java/util/Collections"));
-    private static final Set<String> SIGNATURES = new HashSet<>(Set.of(MAKER));
+    private static final Set<String> SIGNATURES = new HashSet<>(Set.of(MAKER, MAKES_AND_STARTS, STARTS_VIRTUAL));
     /** The names of all calls that are rewritten. */
     private static final Words NAMES;
 
@@ -210,6 +217,13 @@ final class Calls {
     /** Whether such a call has a value for the class behind the class's bytes. */
     static boolean hasData(Call call) {
         return WITH_DATA.equals(call.name + call.descriptor);
+    }
+
+    /** Whether a call makes a thread and starts it. (A class below Thread may have a method of its own that is called so.) */
+    static boolean makesAndStarts(Call call) {
+        String signature = call.name + call.descriptor;
+        if (call.opcode == Opcodes.INVOKESTATIC) return call.owner.equals(THREAD) && signature.equals(STARTS_VIRTUAL);
+        return call.opcode == Opcodes.INVOKEINTERFACE && BUILDERS.contains(call.owner) && signature.equals(MAKES_AND_STARTS);
     }
 
     /**

@@ -209,6 +209,7 @@ final class MethodRewriter {
         if (depth == 2) call(before(at).put(Opcodes.DUP2).put(Opcodes.POP), Hook.STARTS);
         else if (depth == 1) call(before(at).put(Opcodes.DUP), Hook.STARTS);
         if (Calls.definesHidden(call)) defineHidden(call, at);
+        if (Calls.makesAndStarts(call)) makeAndStart(call, at);
         String receiver = Calls.receiver(call, wanted.hierarchy);
         if (receiver == null) return;
         isChanged = true;
@@ -223,6 +224,22 @@ final class MethodRewriter {
         String descriptorOfHook = "(L" + receiver + ";" + words + call.descriptor.substring(end);
         int called = constants.method(Calls.HOOKS, call.name, descriptorOfHook);
         code.instead(at).put(Opcodes.INVOKESTATIC).putShort(called);
+    }
+
+    /** A thread that is made and started by one call is made by one and started by another, which is what that does, so that it is known before. */
+    private void makeAndStart(Calls.Call call, int at) {
+        isChanged = true;
+        boolean hasBuilder = call.opcode == Opcodes.INVOKEINTERFACE;
+        String builder = hasBuilder ? call.owner : Calls.OF_VIRTUAL;
+        Bytes made = code.instead(at);
+        if (!hasBuilder) {
+            int maker = constants.method(Calls.THREAD, "ofVirtual", "()L" + builder + ";");
+            made.put(Opcodes.INVOKESTATIC).putShort(maker).put(Opcodes.SWAP);
+        }
+        int unstarted = constants.methodOfInterface(builder, "unstarted", call.descriptor);
+        made.put(Opcodes.INVOKEINTERFACE).putShort(unstarted).put(2).put(0);
+        call(site(made.put(Opcodes.DUP)), Hook.BEGINS);
+        made.put(Opcodes.DUP).put(Opcodes.INVOKEVIRTUAL).putShort(constants.method(Calls.THREAD, "start", "()V"));
     }
 
     /**
