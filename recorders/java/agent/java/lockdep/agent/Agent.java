@@ -75,8 +75,7 @@ public final class Agent {
     private static void rewriteLoaded(Rewriter rewriter, Instrumentation machine) {
         if (!rewriter.asksForJdk()) return;
         for (Class<?> type : machine.getAllLoadedClasses()) {
-            if (!machine.isModifiableClass(type) || !rewriter.isAsked(type.getName().replace('.', '/'),
-                    type.getModule())) continue;
+            if (!machine.isModifiableClass(type) || !rewriter.isAsked(type)) continue;
             try {
                 machine.retransformClasses(type);
             } catch (UnmodifiableClassException | LinkageError left) {
