@@ -1,5 +1,6 @@
 package java.lockdep;
 
+import java.io.IOException;
 import java.util.Collection;
 import java.util.Date;
 import java.util.Hashtable;
@@ -178,6 +179,13 @@ public final class References {
 
     public static void join(int site, Object thread, long milliseconds, int nanoseconds) throws InterruptedException {
         Hooks.join(thread, milliseconds, nanoseconds, site);
+    }
+
+    // ---- Programs.
+
+    public static Process start(int site, ProcessBuilder builder) throws IOException {
+        Hooks.starts(builder);
+        return builder.start();
     }
 
     public static void halt(int site, Runtime runtime, int status) {

@@ -36,6 +36,9 @@ final class Calls {
     private static final Map<String, String> VIEWS = new HashMap<>();
     private static final Set<String> WAITS = Set.of("wait()V", "wait(J)V", "wait(JI)V");
     private static final Set<String> OF_THREAD = Set.of("start()V", "join()V", "join(J)V", "join(JI)V");
+    private static final String PROCESS_BUILDER = "java/lang/ProcessBuilder";
+    private static final String PIPELINE = "startPipeline";
+    private static final String STARTS_PROCESS = "start()Ljava/lang/Process;";
     static final String THREAD = "java/lang/Thread";
     /** What makes a thread and starts it at once, since Java 21. */
     private static final String BUILDER = THREAD + "$Builder";
@@ -64,9 +67,9 @@ final class Calls {
     private static final Set<String> OF_LOOKUP = Set.of("defineHiddenClass([BZ" + OPTIONS + ")L" + LOOKUP + ";", WITH_DATA);
     private static final String MAKER = "newCondition()L" + CONDITION + ";";
     private static final Set<String> STAYING = Set.of("lock()V", "unlock()V", "tryLock()Z", MAKER, "start()V");
-    private static final Words STARTERS = new Words(Set.of("java/lang/Runtime", "java/lang/ProcessBuilder"));
+    private static final Words STARTERS = new Words(Set.of("java/lang/Runtime", PROCESS_BUILDER));
     private static final Words COLLECTIONS = new Words(Set.of("java/util/Collections"));
-    private static final Set<String> SIGNATURES = new HashSet<>(Set.of(MAKER, MAKES_AND_STARTS, STARTS_VIRTUAL));
+    private static final Set<String> SIGNATURES = new HashSet<>(Set.of(MAKER, MAKES_AND_STARTS, STARTS_VIRTUAL, STARTS_PROCESS));
     /** The names of all calls that are rewritten. */
     private static final Words NAMES;
 
@@ -74,7 +77,7 @@ final class Calls {
         for (Set<String> some : List.of(OF_LOCK, OF_CONDITION, OF_STAMPED, VIEWS.keySet(), WAITS, OF_THREAD, OF_RUNTIME, OF_LOOKUP)) {
             SIGNATURES.addAll(some);
         }
-        Set<String> names = new HashSet<>(Set.of("start", "exec"));
+        Set<String> names = new HashSet<>(Set.of("start", "exec", PIPELINE));
         for (String signature : SIGNATURES) names.add(signature.substring(0, signature.indexOf('(')));
         NAMES = new Words(names);
     }
@@ -116,6 +119,12 @@ final class Calls {
         if (isMaker(type, handle)) return MAKERS.contains(type.owner(method).concat(type.descriptor(method)));
         if (kind != Opcodes.H_INVOKEVIRTUAL && kind != Opcodes.H_INVOKEINTERFACE) return false;
         return NAMES.has(type, type.part(type.part(method, 3), 1)) && isReplaced(type, method);
+    }
+
+    /** The type that the method of References has for the object of what is called; null if a reference to it stays. */
+    static String receiverOfReference(Call call, Hierarchy hierarchy) {
+        boolean startsProcess = call.owner.equals(PROCESS_BUILDER) && STARTS_PROCESS.equals(call.name + call.descriptor);
+        return startsProcess ? PROCESS_BUILDER : receiver(call, hierarchy);
     }
 
     /** What a reference calls, if it isn't one to a constructor. */
@@ -226,16 +235,19 @@ final class Calls {
         return call.opcode == Opcodes.INVOKEINTERFACE && BUILDERS.contains(call.owner) && signature.equals(MAKES_AND_STARTS);
     }
 
-    /**
-     * How far down on the stack a call has what it starts a program by: a builder, or words under an environment; 0 if
-     * it starts none, or in a folder that is named.
-     */
-    static int depthOfStart(Call call) {
-        if (call.opcode != Opcodes.INVOKEVIRTUAL) return 0;
-        if (call.owner.equals("java/lang/ProcessBuilder")) return call.name.equals("start") && call.descriptor.startsWith("()") ? 1 : 0;
+    /** Whether a call starts programs by a builder, or a list of these. */
+    static boolean startsByBuilder(Call call) {
+        boolean isOne = call.opcode == Opcodes.INVOKEVIRTUAL && call.name.equals("start") && call.descriptor.startsWith("()");
+        boolean isList = call.opcode == Opcodes.INVOKESTATIC && call.name.equals(PIPELINE) && call.descriptor.startsWith("(Ljava/util/List;)");
+        return call.owner.equals(PROCESS_BUILDER) && (isOne || isList);
+    }
+
+    /** How far down on the stack a call has the words that it starts a program by, under an environment, and a folder; 0 if it starts none. */
+    static int depthOfWords(Call call) {
         boolean hasWords = call.descriptor.startsWith("(Ljava/lang/String;") || call.descriptor.startsWith("([Ljava/lang/String;");
-        if (!call.owner.equals("java/lang/Runtime") || !call.name.equals("exec") || !hasWords) return 0;
-        if (call.descriptor.contains("Ljava/io/File;")) return 0;
-        return call.descriptor.contains(";[L") ? 2 : 1; // (an environment is behind the words)
+        boolean isStart = call.opcode == Opcodes.INVOKEVIRTUAL && call.owner.equals("java/lang/Runtime") && call.name.equals("exec");
+        if (!isStart || !hasWords) return 0;
+        if (call.descriptor.contains(";[Ljava/lang/String;Ljava/io/File;)")) return 3;
+        return call.descriptor.contains(";[L") ? 2 : 1;
     }
 }

@@ -205,9 +205,7 @@ final class MethodRewriter {
 
     private void rewriteCall(Calls.Call call, int at, int next) {
         if (call.owner.equals("java/util/Collections") && Calls.isWrapper(call)) noteMade(at, next, -1);
-        int depth = source.isOfJdk ? 0 : Calls.depthOfStart(call);
-        if (depth == 2) call(before(at).put(Opcodes.DUP2).put(Opcodes.POP), Hook.STARTS);
-        else if (depth == 1) call(before(at).put(Opcodes.DUP), Hook.STARTS);
+        if (!source.isOfJdk) tellOfProgram(call, at);
         if (Calls.definesHidden(call)) defineHidden(call, at);
         if (Calls.makesAndStarts(call)) makeAndStart(call, at);
         String receiver = Calls.receiver(call, wanted.hierarchy);
@@ -224,6 +222,19 @@ final class MethodRewriter {
         String descriptorOfHook = "(L" + receiver + ";" + words + call.descriptor.substring(end);
         int called = constants.method(Calls.HOOKS, call.name, descriptorOfHook);
         code.instead(at).put(Opcodes.INVOKESTATIC).putShort(called);
+    }
+
+    /** What a program is about to be started by is told: its builder, or its words, which may be under an environment and a folder. */
+    private void tellOfProgram(Calls.Call call, int at) {
+        int depth = Calls.depthOfWords(call);
+        if (depth == 3) {
+            Bytes folderAndWords = before(at).put(Opcodes.DUP_X2).put(Opcodes.POP).put(Opcodes.DUP2_X1).put(Opcodes.POP).put(Opcodes.DUP2);
+            call(folderAndWords, Hook.STARTS_IN).put(Opcodes.POP);
+        } else if (depth == 2) {
+            call(before(at).put(Opcodes.DUP2).put(Opcodes.POP), Hook.STARTS);
+        } else if (depth == 1 || Calls.startsByBuilder(call)) {
+            call(before(at).put(Opcodes.DUP), Hook.STARTS);
+        }
     }
 
     /** A thread that is made and started by one call is made by one and started by another, which is what that does, so that it is known before. */
@@ -297,7 +308,7 @@ final class MethodRewriter {
             int handle = type.number(bootstrap + 4 + 2 * word);
             if (type.kind(handle) != ClassFile.HANDLE || !Calls.mayBeReference(type, handle)) continue;
             boolean isMaker = Calls.isMaker(type, handle);
-            String receiver = isMaker ? "" : Calls.receiver(Calls.referred(type, handle), wanted.hierarchy);
+            String receiver = isMaker ? "" : Calls.receiverOfReference(Calls.referred(type, handle), wanted.hierarchy);
             String changed = receiver == null || isMaker && !made.startsWith("()") ? null : Calls.withPlace(made, receiver);
             if (changed == null) continue;
             int instead = isMaker ? maker(handle) : caller(receiver, handle);
