@@ -1,7 +1,9 @@
 package java.lockdep;
 
+import java.io.File;
 import java.time.Duration;
 import java.util.Date;
+import java.util.List;
 import java.util.concurrent.TimeUnit;
 import java.util.concurrent.locks.Condition;
 import java.util.concurrent.locks.Lock;
@@ -210,16 +212,23 @@ public final class Hooks {
 
     // ---- Programs that are started.
 
-    /** A program is started by a builder, or by its words. Errors never reach the program. */
+    /** A program is started by a builder, or several by a list of these, or one by its words. */
     public static void starts(Object by) {
+        starts(null, by);
+    }
+
+    /** The same in a folder; null is the current one, or the builder's own. Errors never reach the program. */
+    public static void starts(Object folder, Object by) {
         try {
             if (by instanceof ProcessBuilder) {
                 ProcessBuilder builder = (ProcessBuilder) by;
                 Recording.starts(builder.command().toArray(new String[0]), builder.directory());
+            } else if (by instanceof List) {
+                for (Object each : (List<?>) by) starts(each);
             } else if (by instanceof String[]) {
-                Recording.starts(((String[]) by).clone(), null);
+                Recording.starts(((String[]) by).clone(), (File) folder);
             } else if (by instanceof String) {
-                Recording.starts(((String) by).trim().split("\\s+"), null);
+                Recording.starts(((String) by).trim().split("\\s+"), (File) folder);
             }
         } catch (Throwable error) {
             return;

@@ -131,7 +131,7 @@ public final class Site {
 
     /** (Code that calls constructors by reflection has its own loader.) */
     private static boolean isOfProgram(Class<?> type) {
-        return !type.getName().startsWith("jdk.internal.") && type.getClassLoader() != null
+        return !type.getName().startsWith("jdk.internal.reflect.") && type.getClassLoader() != null
                 && type.getClassLoader() != ClassLoader.getPlatformClassLoader();
     }
 

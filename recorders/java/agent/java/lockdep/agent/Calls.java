@@ -36,6 +36,16 @@ final class Calls {
     private static final Map<String, String> VIEWS = new HashMap<>();
     private static final Set<String> WAITS = Set.of("wait()V", "wait(J)V", "wait(JI)V");
     private static final Set<String> OF_THREAD = Set.of("start()V", "join()V", "join(J)V", "join(JI)V");
+    private static final String PROCESS_BUILDER = "java/lang/ProcessBuilder";
+    private static final String PIPELINE = "startPipeline";
+    private static final String STARTS_PROCESS = "start()Ljava/lang/Process;";
+    static final String THREAD = "java/lang/Thread";
+    /** What makes a thread and starts it at once, since Java 21. */
+    private static final String BUILDER = THREAD + "$Builder";
+    static final String OF_VIRTUAL = BUILDER + "$OfVirtual";
+    private static final Set<String> BUILDERS = Set.of(BUILDER, BUILDER + "$OfPlatform", OF_VIRTUAL);
+    private static final String MAKES_AND_STARTS = "start(Ljava/lang/Runnable;)L" + THREAD + ";";
+    private static final String STARTS_VIRTUAL = "startVirtualThread(Ljava/lang/Runnable;)L" + THREAD + ";";
 
     static {
         for (String view : new String[] {"asReadLock()L" + LOCK + ";", "asWriteLock()L" + LOCK + ";",
@@ -60,9 +70,10 @@ final class Calls {
     private static final Set<String> OF_LOOKUP = Set.of("defineHiddenClass([BZ" + OPTIONS + ")L" + LOOKUP + ";", WITH_DATA);
     private static final String MAKER = "newCondition()L" + CONDITION + ";";
     private static final Set<String> STAYING = Set.of("lock()V", "unlock()V", "tryLock()Z", MAKER, "start()V");
-    private static final Words STARTERS = new Words(Set.of("java/lang/Runtime", "java/lang/ProcessBuilder"));
+    private static final Words STARTERS = new Words(Set.of("java/lang/Runtime", PROCESS_BUILDER));
     private static final Words COLLECTIONS = new Words(Set.of("java/util/Collections"));
-    private static final Set<String> SIGNATURES = new HashSet<>(Set.of(MAKER, JOIN_FOR));
+    private static final Set<String> SIGNATURES =
+            new HashSet<>(Set.of(MAKER, JOIN_FOR, MAKES_AND_STARTS, STARTS_VIRTUAL, STARTS_PROCESS));
     /** The names of all calls that are rewritten. */
     private static final Words NAMES;
 
@@ -70,7 +81,7 @@ final class Calls {
         for (Set<String> some : List.of(OF_LOCK, OF_CONDITION, OF_STAMPED, VIEWS.keySet(), WAITS, OF_THREAD, OF_UNIT, OF_RUNTIME, OF_LOOKUP)) {
             SIGNATURES.addAll(some);
         }
-        Set<String> names = new HashSet<>(Set.of("start", "exec"));
+        Set<String> names = new HashSet<>(Set.of("start", "exec", PIPELINE));
         for (String signature : SIGNATURES) names.add(signature.substring(0, signature.indexOf('(')));
         NAMES = new Words(names);
     }
@@ -111,7 +122,20 @@ final class Calls {
         int method = type.part(handle, 2);
         if (isMaker(type, handle)) return MAKERS.contains(type.owner(method).concat(type.descriptor(method)));
         if (kind != Opcodes.H_INVOKEVIRTUAL && kind != Opcodes.H_INVOKEINTERFACE) return false;
-        return isOfLock(type.owner(method), type.nameOfMember(method), type.descriptor(method));
+        return NAMES.has(type, type.part(type.part(method, 3), 1)) && isReplaced(type, method);
+    }
+
+    /** The type that the method of References has for the object of what is called; null if a reference to it stays. */
+    static String receiverOfReference(Call call, Hierarchy hierarchy) {
+        boolean startsProcess = call.owner.equals(PROCESS_BUILDER) && STARTS_PROCESS.equals(call.name + call.descriptor);
+        return startsProcess ? PROCESS_BUILDER : receiver(call, hierarchy);
+    }
+
+    /** What a reference calls, if it isn't one to a constructor. */
+    static Call referred(ClassFile type, int handle) {
+        int method = type.part(handle, 2);
+        int opcode = type.kindOfHandle(handle) == Opcodes.H_INVOKEINTERFACE ? Opcodes.INVOKEINTERFACE : Opcodes.INVOKEVIRTUAL;
+        return new Call(opcode, type.owner(method), type.nameOfMember(method), type.descriptor(method));
     }
 
     /** The method of References that makes an object of a class. */
@@ -185,19 +209,18 @@ final class Calls {
         return call.opcode == Opcodes.INVOKESTATIC && call.name.startsWith("synchronized") && call.descriptor.endsWith(";");
     }
 
-    /** Whether a reference to a method is one to a call that is replaced. */
-    static boolean isOfLock(String owner, String name, String descriptor) {
-        return Hierarchy.LOCK.contains(owner) && OF_LOCK.contains(name + descriptor);
-    }
-
     /**
-     * The class that is used for a reference's object, which it may already have; null if that isn't one of
-     * References.
+     * What makes a reference, with its place as the first word, and of this class if it already has its object; null if it
+     * has more than that.
      */
-    static String objectOf(String descriptor, String owner) {
-        if (descriptor.startsWith("()")) return owner;
-        String object = descriptor.charAt(1) == 'L' ? descriptor.substring(2, descriptor.indexOf(';')) : "";
-        return Hierarchy.LOCK.contains(object) ? object : null;
+    static String withPlace(String descriptor, String receiver) {
+        int end = descriptor.indexOf(')');
+        if (end == 1) return "(I" + descriptor.substring(end);
+        int kind = 1;
+        while (descriptor.charAt(kind) == '[') kind++;
+        boolean isNamed = descriptor.charAt(kind) == 'L';
+        boolean isOne = end == 1 + (isNamed ? descriptor.indexOf(';') : kind);
+        return isOne && (isNamed || kind > 1) ? "(IL" + receiver + ";" + descriptor.substring(end) : null;
     }
 
     /** Whether a call defines a hidden class. */
@@ -210,16 +233,26 @@ final class Calls {
         return WITH_DATA.equals(call.name + call.descriptor);
     }
 
-    /**
-     * How far down on the stack a call has what it starts a program by: a builder, or words under an environment; 0 if
-     * it starts none, or in a folder that is named.
-     */
-    static int depthOfStart(Call call) {
-        if (call.opcode != Opcodes.INVOKEVIRTUAL) return 0;
-        if (call.owner.equals("java/lang/ProcessBuilder")) return call.name.equals("start") && call.descriptor.startsWith("()") ? 1 : 0;
+    /** Whether a call makes a thread and starts it. (A class below Thread may have a method of its own that is called so.) */
+    static boolean makesAndStarts(Call call) {
+        String signature = call.name + call.descriptor;
+        if (call.opcode == Opcodes.INVOKESTATIC) return call.owner.equals(THREAD) && signature.equals(STARTS_VIRTUAL);
+        return call.opcode == Opcodes.INVOKEINTERFACE && BUILDERS.contains(call.owner) && signature.equals(MAKES_AND_STARTS);
+    }
+
+    /** Whether a call starts programs by a builder, or a list of these. */
+    static boolean startsByBuilder(Call call) {
+        boolean isOne = call.opcode == Opcodes.INVOKEVIRTUAL && call.name.equals("start") && call.descriptor.startsWith("()");
+        boolean isList = call.opcode == Opcodes.INVOKESTATIC && call.name.equals(PIPELINE) && call.descriptor.startsWith("(Ljava/util/List;)");
+        return call.owner.equals(PROCESS_BUILDER) && (isOne || isList);
+    }
+
+    /** How far down on the stack a call has the words that it starts a program by, under an environment, and a folder; 0 if it starts none. */
+    static int depthOfWords(Call call) {
         boolean hasWords = call.descriptor.startsWith("(Ljava/lang/String;") || call.descriptor.startsWith("([Ljava/lang/String;");
-        if (!call.owner.equals("java/lang/Runtime") || !call.name.equals("exec") || !hasWords) return 0;
-        if (call.descriptor.contains("Ljava/io/File;")) return 0;
-        return call.descriptor.contains(";[L") ? 2 : 1; // (an environment is behind the words)
+        boolean isStart = call.opcode == Opcodes.INVOKEVIRTUAL && call.owner.equals("java/lang/Runtime") && call.name.equals("exec");
+        if (!isStart || !hasWords) return 0;
+        if (call.descriptor.contains(";[Ljava/lang/String;Ljava/io/File;)")) return 3;
+        return call.descriptor.contains(";[L") ? 2 : 1;
     }
 }

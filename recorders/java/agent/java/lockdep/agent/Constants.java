@@ -115,6 +115,10 @@ final class Constants {
         return of(ClassFile.METHOD, type(owner), nameAndType(name, descriptor));
     }
 
+    int methodOfInterface(String owner, String name, String descriptor) {
+        return of(ClassFile.METHOD_OF_INTERFACE, type(owner), nameAndType(name, descriptor));
+    }
+
     int method(Hook hook) {
         int known = hooks[hook.ordinal()];
         return known != 0 ? known : (hooks[hook.ordinal()] = method(Calls.HOOKS, hook.called, hook.descriptor));

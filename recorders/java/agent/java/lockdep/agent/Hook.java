@@ -10,6 +10,7 @@ enum Hook {
     BORN("born", Hook.OF_OBJECT),
     BEGINS("begins", Hook.OF_OBJECT_AND_SITE),
     STARTS("starts", Hook.OF_OBJECT),
+    STARTS_IN("starts", "(Ljava/lang/Object;Ljava/lang/Object;)V"),
     LOCKS("locks", Hook.OF_LOCK_AND_SITE),
     LOCKED("locked", Hook.OF_LOCK_AND_SITE),
     UNLOCKS("unlocks", Hook.OF_LOCK_AND_SITE),

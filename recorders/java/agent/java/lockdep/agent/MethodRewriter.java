@@ -205,10 +205,9 @@ final class MethodRewriter {
 
     private void rewriteCall(Calls.Call call, int at, int next) {
         if (call.owner.equals("java/util/Collections") && Calls.isWrapper(call)) noteMade(at, next, -1);
-        int depth = source.isOfJdk ? 0 : Calls.depthOfStart(call);
-        if (depth == 2) call(before(at).put(Opcodes.DUP2).put(Opcodes.POP), Hook.STARTS);
-        else if (depth == 1) call(before(at).put(Opcodes.DUP), Hook.STARTS);
+        if (!source.isOfJdk) tellOfProgram(call, at);
         if (Calls.definesHidden(call)) defineHidden(call, at);
+        if (Calls.makesAndStarts(call)) makeAndStart(call, at);
         String receiver = Calls.receiver(call, wanted.hierarchy);
         if (receiver == null) return;
         isChanged = true;
@@ -223,6 +222,35 @@ final class MethodRewriter {
         String descriptorOfHook = "(L" + receiver + ";" + words + call.descriptor.substring(end);
         int called = constants.method(Calls.HOOKS, call.name, descriptorOfHook);
         code.instead(at).put(Opcodes.INVOKESTATIC).putShort(called);
+    }
+
+    /** What a program is about to be started by is told: its builder, or its words, which may be under an environment and a folder. */
+    private void tellOfProgram(Calls.Call call, int at) {
+        int depth = Calls.depthOfWords(call);
+        if (depth == 3) {
+            Bytes folderAndWords = before(at).put(Opcodes.DUP_X2).put(Opcodes.POP).put(Opcodes.DUP2_X1).put(Opcodes.POP).put(Opcodes.DUP2);
+            call(folderAndWords, Hook.STARTS_IN).put(Opcodes.POP);
+        } else if (depth == 2) {
+            call(before(at).put(Opcodes.DUP2).put(Opcodes.POP), Hook.STARTS);
+        } else if (depth == 1 || Calls.startsByBuilder(call)) {
+            call(before(at).put(Opcodes.DUP), Hook.STARTS);
+        }
+    }
+
+    /** A thread that is made and started by one call is made by one and started by another, which is what that does, so that it is known before. */
+    private void makeAndStart(Calls.Call call, int at) {
+        isChanged = true;
+        boolean hasBuilder = call.opcode == Opcodes.INVOKEINTERFACE;
+        String builder = hasBuilder ? call.owner : Calls.OF_VIRTUAL;
+        Bytes made = code.instead(at);
+        if (!hasBuilder) {
+            int maker = constants.method(Calls.THREAD, "ofVirtual", "()L" + builder + ";");
+            made.put(Opcodes.INVOKESTATIC).putShort(maker).put(Opcodes.SWAP);
+        }
+        int unstarted = constants.methodOfInterface(builder, "unstarted", call.descriptor);
+        made.put(Opcodes.INVOKEINTERFACE).putShort(unstarted).put(2).put(0);
+        call(site(made.put(Opcodes.DUP)), Hook.BEGINS);
+        made.put(Opcodes.DUP).put(Opcodes.INVOKEVIRTUAL).putShort(constants.method(Calls.THREAD, "start", "()V"));
     }
 
     /**
@@ -268,8 +296,8 @@ final class MethodRewriter {
     }
 
     /**
-     * References to methods of locks, such as `lock::unlock`, or to their constructors become references to what is called
-     * instead, which gets their place first.
+     * References to methods of locks, such as `lock::unlock`, of conditions and of threads, or to constructors of locks, become
+     * references to what is called instead, which gets their place first. None of their words but their object may be known.
      */
     private void rewriteReferences(int at) {
         int call = type.number(at + 1);
@@ -279,29 +307,27 @@ final class MethodRewriter {
         for (int word = 0; word < type.number(bootstrap + 2); word++) {
             int handle = type.number(bootstrap + 4 + 2 * word);
             if (type.kind(handle) != ClassFile.HANDLE || !Calls.mayBeReference(type, handle)) continue;
-            int instead = Calls.isMaker(type, handle) ? maker(made, handle) : caller(made, handle);
-            if (instead == 0) continue;
-            int site = Calls.isMaker(type, handle) ? siteOfMade(-1) : Site.add(source, name, where(), 1);
-            Bytes added = number(before(at), site);
+            boolean isMaker = Calls.isMaker(type, handle);
+            String receiver = isMaker ? "" : Calls.receiverOfReference(Calls.referred(type, handle), wanted.hierarchy);
+            String changed = receiver == null || isMaker && !made.startsWith("()") ? null : Calls.withPlace(made, receiver);
+            if (changed == null) continue;
+            int instead = isMaker ? maker(handle) : caller(receiver, handle);
+            Bytes added = number(before(at), isMaker ? siteOfMade(-1) : Site.add(source, name, where(), 1));
             if (!made.startsWith("()")) added.put(Opcodes.SWAP);
-            int changed = constants.dynamicCall(call, "(I" + made.substring(1), word, instead);
-            code.instead(at).put(Opcodes.INVOKEDYNAMIC).putShort(changed).putShort(0);
+            code.instead(at).put(Opcodes.INVOKEDYNAMIC).putShort(constants.dynamicCall(call, changed, word, instead)).putShort(0);
             return;
         }
     }
 
-    /** What is called instead of a method of a lock; 0 if that isn't one of References. */
-    private int caller(String made, int handle) {
+    /** What is called instead of a method of a lock, a condition or a thread. */
+    private int caller(String receiver, int handle) {
         int called = type.part(handle, 2);
-        String object = Calls.objectOf(made, type.owner(called));
-        if (object == null) return 0;
-        String words = "(IL" + object + ";" + type.descriptor(called).substring(1);
+        String words = "(IL" + receiver + ";" + type.descriptor(called).substring(1);
         return constants.handle(constants.method(Calls.REFERENCES, type.nameOfMember(called), words));
     }
 
-    /** What is called instead of a constructor; 0 if a word of its call is already known. */
-    private int maker(String made, int handle) {
-        if (!made.startsWith("()")) return 0;
+    /** What is called instead of a constructor. */
+    private int maker(int handle) {
         int constructor = type.part(handle, 2);
         String owner = type.owner(constructor);
         String words = type.descriptor(constructor).substring(1).replace(")V", ")L" + owner + ";");

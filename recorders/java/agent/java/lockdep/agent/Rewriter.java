@@ -23,8 +23,12 @@ final class Rewriter implements ClassFileTransformer {
         "java/lang/AbstractStringBuilder", "java/lang/String", "java/util/concurrent/ConcurrentHashMap",
         "java/util/concurrent/locks/", "java/io/FileOutputStream", "java/io/FileDescriptor", "java/lockdep/",
                 "jdk/internal/",
-        "sun/instrument/", "sun/launcher/", "lockdep_java_agent/"};
+        "sun/instrument/", "sun/launcher/"};
     private static final String[] ALWAYS = {"java/lang/StringBuffer"};
+    /** What other loaders have for reflection, and who loads the recorder. */
+    private static final String[] NOT_OF_PROGRAM = {"jdk/internal/reflect/", "sun/reflect/misc/", "lockdep_java_agent/"};
+    private static final String[] OF_JDK = {"java/", "jdk/", "sun/"};
+    private static final ClassLoader PLATFORM = ClassLoader.getPlatformClassLoader();
 
     private final String[] jdk;
     private volatile Location last;
@@ -42,20 +46,38 @@ final class Rewriter implements ClassFileTransformer {
     }
 
     @Override
-    public byte[] transform(Module module, ClassLoader loader, String name, Class<?> redefined,
+    public byte[] transform(Module module, ClassLoader loader, String named, Class<?> redefined,
             ProtectionDomain domain, byte[] file) {
-        if (name == null || file == null) return null;
-        boolean isOfJdk = isOfJdk(module, name);
-        if (isOfJdk && !begins(name, jdk)) return null;
-        if (begins(name, NEVER) && !begins(name, ALWAYS)) return null;
+        if (file == null) return null;
+        String name = named != null ? named : isMadeByJdk(loader) ? null : nameIn(file);
+        if (name == null) return null;
+        boolean isOfJdk = isOfJdk(module, loader, name);
+        if (isOfJdk ? !isAsked(name) : begins(name, NOT_OF_PROGRAM)) return null;
         return rewriteOrTell(name, loader, file, domain, isOfJdk, false);
+    }
+
+    /** Whether a loader is one that the JDK has for what it makes itself, as from style sheets, and defines without a name. */
+    private static boolean isMadeByJdk(ClassLoader loader) {
+        Module own = loader == null ? Object.class.getModule() : loader.getClass().getModule();
+        return own != Object.class.getModule() && isOfJdk(own);
+    }
+
+    /** The name of a class that a loader defines without saying it; null if the file has none, and so can't be rewritten. */
+    private static String nameIn(byte[] file) {
+        try {
+            return new ClassFile(file).name;
+        } catch (RuntimeException unreadable) {
+            Recording.unrewritten();
+            tellWhy("a class without a name", unreadable);
+            return null;
+        }
     }
 
     /** The file of a hidden class that the JVM shows to no agent, as it is to be defined beside a class; null if it stays as it is. */
     byte[] rewriteHidden(Class<?> beside, byte[] file) {
         String name = beside.getName().replace('.', '/');
-        boolean isOfJdk = isOfJdk(beside.getModule(), name);
-        if (isOfJdk && !begins(name, jdk) || begins(name, NEVER)) return null;
+        boolean isOfJdk = isOfJdk(beside.getModule(), beside.getClassLoader(), name);
+        if (isOfJdk ? !isAsked(name) : begins(name, NOT_OF_PROGRAM)) return null;
         return rewriteOrTell("a hidden class beside " + name, beside.getClassLoader(), file, domainOf(beside), isOfJdk, true);
     }
 
@@ -90,17 +112,30 @@ final class Rewriter implements ClassFileTransformer {
         if (!isOfProgram && jdk.length == 0) return false;
         if (type.isArray() || type.isPrimitive() || type.getName().indexOf('/') >= 0) return false;
         String name = type.getName().replace('.', '/');
-        boolean isWanted = isOfJdk(type.getModule(), name) ? begins(name, jdk) : isOfProgram;
-        return isWanted && (!begins(name, NEVER) || begins(name, ALWAYS));
+        if (isOfJdk(type.getModule(), type.getClassLoader(), name)) return isAsked(name);
+        return isOfProgram && !begins(name, NOT_OF_PROGRAM);
     }
 
     private static boolean isOfProgram(ClassLoader loader) {
-        return loader != null && loader != ClassLoader.getPlatformClassLoader();
+        return loader != null && loader != PLATFORM;
     }
 
-    private static boolean isOfJdk(Module module, String name) {
-        if (module == null || !module.isNamed()) return begins(name, new String[] {"java/", "jdk/", "sun/"});
-        return module.getName().startsWith("java.") || module.getName().startsWith("jdk.");
+    private boolean isAsked(String name) {
+        return begins(name, jdk) && (!begins(name, NEVER) || begins(name, ALWAYS));
+    }
+
+    /**
+     * Whether a class is the JDK's. Some of its modules have the program's own loader. Without a module, it is one of the
+     * recorder or of what was added to the boot loader's path, and of the JDK by its package; other loaders have only the
+     * program's classes, whatever their packages are called.
+     */
+    private static boolean isOfJdk(Module module, ClassLoader loader, String name) {
+        if (module != null && module.isNamed()) return isOfJdk(module);
+        return (loader == null || loader == PLATFORM) && begins(name, OF_JDK);
+    }
+
+    private static boolean isOfJdk(Module module) {
+        return module.isNamed() && (module.getName().startsWith("java.") || module.getName().startsWith("jdk."));
     }
 
     private static boolean begins(String name, String[] beginnings) {
