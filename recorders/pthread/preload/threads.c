@@ -840,29 +840,31 @@ static void note_if_own(struct thread *t, uintptr_t lock, uint32_t handed_on) {
             note_new(lock, t->number, handed_on);
 }
 
-/* Whether this thread has initialised the lock with nothing held, and handed nothing on since. */
-static bool is_own_made(const struct thread *t, uintptr_t lock, uint32_t handed_on) {
-    uint32_t count = t->own_made_count < OWN_MADE ? t->own_made_count : OWN_MADE;
-    for (uint32_t i = 0; i < count; i++)
-        if (t->own_made[i].address == lock && t->own_made[i].handed_on == handed_on)
+/* Whether this thread has initialised the lock with nothing held, and handed nothing on since. Of one that has made more than a few so it isn't known. */
+static bool is_own_made(const struct thread *t, uintptr_t lock) {
+    for (uint32_t i = 0; i < t->own_made_count && i < OWN_MADE; i++)
+        if (t->own_made[i] == lock)
             return true;
     return false;
 }
 
+static bool has_made_few(const struct thread *t, uint32_t handed_on) { return t->made_at == handed_on && t->own_made_count <= OWN_MADE; }
+
 static bool are_own_made(const struct thread *t, uint32_t handed_on) { return !t->depth || (t->own_depth == t->depth && t->own_at == handed_on); }
 
-/* A lock that this thread takes next, without waiting for it, is such a one. When another thread comes to it, it isn't any more. */
+/* A lock that this thread takes next, without waiting for it, is such a one. When another thread comes to it, it isn't any more. Static ones are known
+   to all. */
 static void note_if_own_made(struct thread *t, uintptr_t lock, uint32_t handed_on) {
-    if (t->made_at != handed_on || !are_own_made(t, handed_on) || !is_own_made(t, lock, handed_on))
+    if (!has_made_few(t, handed_on) || !are_own_made(t, handed_on) || !is_own_made(t, lock) || known_module(lock))
         return;
     note_new(lock, t->number, handed_on);
     t->own_depth = t->depth + 1;
     t->own_at = handed_on;
 }
 
-/* Whether nobody else has come to any lock that is held: who has the next one doesn't wait for these. */
-static bool is_under_new(const struct thread *t, uint32_t handed_on) {
-    if (!t->depth || !are_own_made(t, handed_on))
+/* Whether nobody else has come to any lock that is held: who has the next one, which this thread hasn't made as well, doesn't wait for these. */
+static bool is_under_new(const struct thread *t, uintptr_t lock, uint32_t handed_on) {
+    if (!t->depth || !has_made_few(t, handed_on) || !are_own_made(t, handed_on) || is_own_made(t, lock))
         return false;
     for (uint32_t i = 0; i < t->depth; i++)
         if (!comes_to_new(t->entries[i].held.lock, t->number, handed_on))
@@ -886,7 +888,7 @@ static inline uint32_t object_to_hold(struct thread *t, uintptr_t lock, uint8_t 
     bool is_new = object && comes_to_new(lock, t->number, handed_on(t) - 1), waits = raw_plain(*mode) < MODE_TRY_WRITE;
     if (waits && is_new)
         *mode |= RAW_NEW;
-    else if (waits && RARELY(t->made_at == handed_on(t) - 1) && object && is_under_new(t, handed_on(t) - 1))
+    else if (waits && RARELY(t->made_at == handed_on(t) - 1) && object && is_under_new(t, lock, handed_on(t) - 1))
         *mode |= RAW_UNDER_NEW;
     if (!t->depth)
         *mode &= (uint8_t)(t->is_started ? ~RAW_NEW : ~RAW_WEAK);
@@ -1460,6 +1462,15 @@ static void end_holds_between(struct thread *t, uintptr_t from, uintptr_t to, ui
 
 void end_own_holds(uintptr_t from, uintptr_t to, struct call call) { end_holds_between(self.thread, from, to, call.caller); }
 
+/* Those before were handed on if something was since. */
+static void note_own_made(struct thread *t, uintptr_t lock) {
+    if (t->made_at != handed_on(t))
+        t->own_made_count = 0;
+    t->made_at = handed_on(t);
+    t->own_made[t->own_made_count % OWN_MADE] = lock;
+    t->own_made_count += t->own_made_count <= OWN_MADE;
+}
+
 void initialised(uintptr_t lock, struct call call) {
     struct thread *t = IS_WANTED(lock, call) ? enter(call) : NULL;
     if (!t)
@@ -1469,10 +1480,8 @@ void initialised(uintptr_t lock, struct call call) {
     keep_nesting(lock);
     if (is_own && t->depth)
         note_new(lock, t->number, handed_on(t));
-    else if (is_own) {
-        t->made_at = handed_on(t);
-        t->own_made[t->own_made_count++ % OWN_MADE] = (struct own_piece){lock, t->made_at};
-    }
+    else if (is_own)
+        note_own_made(t, lock);
     leave();
 }
 
