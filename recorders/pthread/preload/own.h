@@ -191,6 +191,15 @@ struct call {
 };
 #define HERE ((struct call){CALLER, FRAME})
 
+/* The value of a call with HERE among its arguments, if that is all that is left to do: the frame has to stay meanwhile, since the caller's rbp lies
+   there. */
+#define KEEPING_FRAME(expression)                                                                                      \
+    ({                                                                                                                 \
+        __typeof__(expression) value = (expression);                                                                   \
+        __asm__ volatile("");                                                                                          \
+        value;                                                                                                         \
+    })
+
 struct stack {
     uint64_t element; /* of an array that is allocated there, as in raw_place */
     uint32_t count;
