@@ -9,8 +9,8 @@
    (`many`), or what is taken under it was made by the same thread then (`both`).
 
    Or between making and taking it there the maker hands it on: to a thread that it starts (`started`), under a lock that it releases (`listed`),
-   or by a semaphore (`posted`). Nothing is handed on if it only takes and releases the new lock (`twice`), or takes a recursive lock that it
-   holds once more (`recursive`), or if it starts a thread before (`earlier`). */
+   by a semaphore (`posted`), or at a barrier (`passed`). Nothing is handed on if it only takes and releases the new lock (`twice`), or takes a
+   recursive lock that it holds once more (`recursive`), or if it starts a thread before (`earlier`). */
 #include "common.h"
 
 #include <sched.h>
@@ -81,6 +81,13 @@ static void *in_the_other_order(void *unused) {
     return unused;
 }
 
+static void pass_barrier(void) {
+    pthread_barrier_t barrier;
+    pthread_barrier_init(&barrier, NULL, 1);
+    pthread_barrier_wait(&barrier);
+    pthread_barrier_destroy(&barrier);
+}
+
 /* The lock is made and taken under `global`, and in between its maker does what is asked for. */
 static void make_and(const char *way) {
     pthread_t waiter;
@@ -96,6 +103,8 @@ static void make_and(const char *way) {
         take_and_give(&other);
     if (strcmp(way, "posted") == 0)
         sem_post(&posted);
+    if (strcmp(way, "passed") == 0)
+        pass_barrier();
     if (strcmp(way, "twice") == 0)
         take_and_give(shared);
     if (strcmp(way, "recursive") == 0)
@@ -255,7 +264,7 @@ int main(int argc, char **argv) {
     const char *way = argc > 1 ? argv[1] : "";
     if (strcmp(way, "recursive") == 0)
         make_recursive(&global);
-    if (is_among(way, "started listed posted twice recursive earlier")) {
+    if (is_among(way, "started listed posted passed twice recursive earlier")) {
         make_and(way);
         return 0;
     }
