@@ -1145,54 +1145,6 @@ void pass_end(uintptr_t thread, uint32_t object, uint8_t mode, struct call call)
     release_at(t, t->depth - 1, call.caller);
 }
 
-/* Gives back what is held from one lock on; then it is as if this thread hadn't taken that yet. */
-#define MOST_ASIDE 8
-struct aside {
-    struct held held;
-    uint32_t place;
-};
-
-static void set_aside(struct thread *t, uint32_t from, struct aside *aside, uintptr_t caller) {
-    for (uint32_t i = t->depth; i-- > from;) {
-        const struct held *h = &t->entries[i].held;
-        aside[i - from] = (struct aside){*h, h->is_written ? record_at(t, h->record)->place : 0};
-        release_at(t, i, caller);
-    }
-}
-
-/* Takes it again, where it was taken before. */
-static void take_back(struct thread *t, const struct aside *aside, uint32_t count, struct call call) {
-    for (const struct aside *a = aside; a < aside + count; a++) {
-        push_held(t, a->held.lock, object_of(&a->held), mode_with_weak(&a->held), (enum kind)a->held.kind, call, a->held.is_wish);
-        struct held *h = &t->entries[t->depth - 1].held;
-        h->depth = a->held.depth;
-        h->released = a->held.released;
-        h->since = a->held.since;
-        if (h->is_written && a->held.is_written)
-            record_at(t, h->record)->place = a->place;
-    }
-}
-
-/* Passes the end of a thread that has given notice to this one, as if this one had joined it before it took the lock with which it waited for that.
-   False if there was no notice: then nothing was done. `takes_one` says of a thread that gave one whether it took one more lock after that. */
-bool pass_end_early(uintptr_t thread, uint32_t object, uint8_t mode, const struct raw_thread *raw, bool *takes_one, struct call call) {
-    struct thread *t = self.thread;
-    struct aside aside[MOST_ASIDE];
-    settle_to_take(t, call);
-    uint32_t before = held_before_notice(raw, takes_one), count = t->depth - before;
-    if (!count || count > MOST_ASIDE)
-        return false;
-    if (!before && !t->is_started)
-        return true;
-    uint64_t failed_under = t->failed_under;
-    set_aside(t, before, aside, call.caller);
-    push_held(t, thread, object, mode, KIND_THREAD, call, false);
-    release_at(t, t->depth - 1, call.caller);
-    take_back(t, aside, count, call);
-    t->failed_under = failed_under;
-    return true;
-}
-
 void pass_lock(uintptr_t lock, uint8_t mode, enum kind kind, struct call call) {
     struct thread *t = self.thread;
     settle_to_take(t, call);
