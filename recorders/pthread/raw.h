@@ -273,14 +273,16 @@ struct raw_left_out {
 enum raw_waits { RAW_WAITS_NOT, RAW_WAITS, RAW_WAITS_AT_EXIT, RAW_WAITS_FOR_A_TIME };
 #define RAW_CALLED 16 /* bytes of a thread's name, with the 0 at its end */
 
-/* A condition that a thread signalled, with the lock that it took last, or had released just before: it may have said so that it is done. */
+/* A condition that a thread signalled, with the lock that it took last, or had released just before: it may have said so that it is done. Of more
+   conditions than are kept here it isn't known whether one was signalled before. */
 #define RAW_NOTICES 2 /* of a thread; the newest comes first */
 struct raw_notice {
     uint64_t condition, lock; /* their addresses; 0 of none */
     uint64_t moment;          /* of the preload library */
     uint64_t calls;           /* of the thread when all that it held then is released, if it takes nothing meanwhile */
     uint32_t pauses;          /* of the thread */
-    uint32_t is_alone;        /* it held no other lock */
+    uint16_t is_alone;        /* it held no other lock */
+    uint16_t is_again;        /* it had signalled the condition before, and so says more than that it is done */
 };
 
 struct raw_thread {

@@ -15,7 +15,7 @@
 
 #define REALS(X)                                                                                                       \
     X(pthread_once) X(call_once) X(dlopen) X(dlmopen) X(dlclose) X(sem_init) X(sem_destroy) X(sem_wait) X(sem_timedwait)  \
-    X(sem_clockwait) X(sem_trywait) X(sem_post) X(mlockall) X(flockfile) X(ftrylockfile) X(funlockfile)
+    X(sem_clockwait) X(sem_trywait) X(sem_post) X(pthread_barrier_wait) X(mlockall) X(flockfile) X(ftrylockfile) X(funlockfile)
 
 REALS(KNOWN_REAL)
 
@@ -404,6 +404,15 @@ EXPORT int sem_post(sem_t *lock) {
     if (SEMAPHORES)
         posting(lock, HERE);
     return REAL(sem_post)(lock);
+}
+
+/* Who waits at a barrier hands on what it has made to those that it lets pass. */
+EXPORT int pthread_barrier_wait(pthread_barrier_t *barrier) {
+    note_handing_on();
+    note_pause();
+    int answer = REAL(pthread_barrier_wait)(barrier);
+    note_pause();
+    return answer;
 }
 
 EXPORT void flockfile(FILE *lock) {

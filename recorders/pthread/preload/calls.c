@@ -101,7 +101,7 @@ static inline bool took(int answer) { return answer == 0 || answer == EOWNERDEAD
             return 0;                                                                                                  \
         int answer = is_sound ? real_try(lock) : taken;                                                                \
         if (RARELY(answer != 0))                                                                                       \
-            return wait_by_##name AND_THESE arguments;                                                                 \
+            return KEEPING_FRAME(wait_by_##name AND_THESE arguments);                                                  \
         if (!is_often)                                                                                                 \
             acquired((uintptr_t)lock, mode, KIND_OF(lock), HERE);                                                      \
         else if (!acquired_again((uintptr_t)lock, mode, KIND_OF(lock), HERE))                                          \
@@ -129,7 +129,9 @@ static inline bool took(int answer) { return answer == 0 || answer == EOWNERDEAD
     }                                                                                                                  \
     LINED_UP EXPORT int name(type *lock) {                                                                             \
         __typeof__(&name) real = (__typeof__(&name))LOAD(&real_##name);                                                \
-        return LIKELY(real && released_again((uintptr_t)lock, HERE)) ? real(lock) : by_##name(lock, HERE);             \
+        if (LIKELY(real && released_again((uintptr_t)lock, HERE)))                                                     \
+            return real(lock);                                                                                         \
+        return KEEPING_FRAME(by_##name(lock, HERE));                                                                   \
     }
 
 /* A mutex that refuses to be released by a thread that didn't take it: one that is recursive, checked, robust, or lends its holder a

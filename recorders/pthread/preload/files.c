@@ -150,7 +150,7 @@ EXPORT int flock(int descriptor, int what) {
     if (!FILES)
         return REAL(flock)(descriptor, what);
     if (what & (LOCK_EX | LOCK_SH))
-        return take_whole(descriptor, what, HERE);
+        return KEEPING_FRAME(take_whole(descriptor, what, HERE));
     uint32_t file = held_here ? known_file_of(descriptor) : 0;
     if (file && what & LOCK_UN)
         give_up_between(file, 0, 1, descriptor, HERE);
@@ -219,7 +219,7 @@ static void note_owner_of(int descriptor) {
         void *with = va_arg(more, void *);                                                                             \
         va_end(more);                                                                                                  \
         if (RARELY(is_of_ranges(command) && with && FILES))                                                            \
-            return set_range(descriptor, command, with, HERE);                                                         \
+            return KEEPING_FRAME(set_range(descriptor, command, with, HERE));                                          \
         int answer = REAL(fcntl)(descriptor, command, with);                                                           \
         if (RARELY(is_of_signals(command)) && answer == 0 && is_recording())                                           \
             note_owner_of(descriptor);                                                                                 \
@@ -238,7 +238,7 @@ static int lock_from_here(int descriptor, int what, off_t length, struct call ca
 
 #define LOCKING(name)                                                                                                  \
     EXPORT int name(int descriptor, int what, off_t length) {                                                          \
-        return FILES ? lock_from_here(descriptor, what, length, HERE) : REAL(lockf)(descriptor, what, length);         \
+        return FILES ? KEEPING_FRAME(lock_from_here(descriptor, what, length, HERE)) : REAL(lockf)(descriptor, what, length); \
     }
 
 LOCKING(lockf)

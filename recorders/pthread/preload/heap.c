@@ -505,7 +505,7 @@ static void *reallocated(void *piece, size_t size, uint64_t element, struct call
 EXPORT void *realloc(void *piece, size_t size) {
     if (RARELY(is_early(piece)))
         return grown_early(piece, size);
-    return resolved() ? reallocated(piece, size, 0, HERE) : early_memory(size);
+    return resolved() ? KEEPING_FRAME(reallocated(piece, size, 0, HERE)) : early_memory(size);
 }
 
 EXPORT void *reallocarray(void *piece, size_t count, size_t size) {
@@ -514,15 +514,15 @@ EXPORT void *reallocarray(void *piece, size_t count, size_t size) {
         errno = ENOMEM;
         return NULL;
     }
-    return resolved() ? reallocated(piece, bytes, element_of(count, size), HERE) : NULL;
+    return resolved() ? KEEPING_FRAME(reallocated(piece, bytes, element_of(count, size), HERE)) : NULL;
 }
 
 EXPORT void *memalign(size_t alignment, size_t size) {
-    return resolved() ? noted(REAL(memalign)(alignment, size), size, HERE) : NULL;
+    return resolved() ? KEEPING_FRAME(noted(REAL(memalign)(alignment, size), size, HERE)) : NULL;
 }
 
 EXPORT void *aligned_alloc(size_t alignment, size_t size) {
-    return resolved() ? noted(REAL(aligned_alloc)(alignment, size), size, HERE) : NULL;
+    return resolved() ? KEEPING_FRAME(noted(REAL(aligned_alloc)(alignment, size), size, HERE)) : NULL;
 }
 
 EXPORT int posix_memalign(void **piece, size_t alignment, size_t size) {

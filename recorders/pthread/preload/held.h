@@ -77,8 +77,7 @@ struct own_piece {
     uint32_t handed_on;
 };
 
-/* The same of a lock that it has initialised. */
-#define OWN_MADE 7
+#define OWN_MADE 14
 #define NEVER UINT32_MAX /* what handed_on isn't */
 
 /* A record of a state. */
@@ -150,8 +149,8 @@ struct thread {
     uint32_t own_lock_count; /* so many there were, with those that aren't here any more */
     struct own_piece own_pieces[OWN_PIECES]; /* the last ones that it allocated with something held */
     uint32_t own_piece_count;
-    struct own_piece own_made[OWN_MADE]; /* the last locks that it initialised with nothing held */
-    uint32_t own_made_count, made_at;    /* made_at: what handed_on was at the last one, or NEVER */
+    uintptr_t own_made[OWN_MADE];     /* the locks that it initialised with nothing held when handed_on was made_at */
+    uint32_t own_made_count, made_at; /* OWN_MADE + 1 of more than OWN_MADE; made_at is NEVER if there are none */
     uint32_t own_depth, own_at; /* so many of the oldest locks that are held are such ones, as long as handed_on is that */
     bool is_started;     /* by another thread, which may wait for its end, or by a signal, which has interrupted what may hold something */
     uint32_t handed_more; /* what handed_on has besides what can be told from its calls */

@@ -196,13 +196,12 @@ static void end_join(pthread_t thread, uint8_t weak, bool is_wish, enum ending e
     const struct raw_thread *part = part_of_life(thread);
     bool is_told = part && LOAD(&part->count) && matters();
     if ((is_told || has_trace()) && enter_recorder(call)) {
-        bool takes_one = ending == TAKES_ONE;
-        uint32_t object = is_told ? object_of(thread) : 0;
-        uint8_t mode = MODE_WRITE | weak | (ending ? RAW_ENDED : 0);
-        if (!object || !ending || !pass_end_early((uintptr_t)thread, object, mode, part, &takes_one, call))
-            pass_end((uintptr_t)thread, object, mode, call);
-        if (is_told && takes_one)
-            pass_end(part->last_lock, raw_object(part->last), mode_of_last(part) | weak | (ending == HAD_ENDED ? RAW_ENDED : 0), call);
+        bool takes_one = false;
+        if (is_told && ending == GOES_ON && has_given_notice(part, &takes_one))
+            ending = takes_one ? TAKES_ONE : HAD_ENDED;
+        pass_end((uintptr_t)thread, is_told ? object_of(thread) : 0, MODE_WRITE | weak | (ending ? RAW_ENDED : 0), call);
+        if (is_told && ending == TAKES_ONE)
+            pass_end(part->last_lock, raw_object(part->last), mode_of_last(part) | weak, call);
         end_inside();
     }
     if (!is_told)

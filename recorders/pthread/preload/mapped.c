@@ -302,11 +302,11 @@ static void *mapped(void *at, size_t bytes, int rights, int how, int file, off_t
 }
 
 EXPORT void *mmap(void *at, size_t bytes, int rights, int how, int file, off_t offset) {
-    return mapped(at, bytes, rights, how, file, offset, HERE);
+    return KEEPING_FRAME(mapped(at, bytes, rights, how, file, offset, HERE));
 }
 
 EXPORT void *mmap64(void *at, size_t bytes, int rights, int how, int file, off64_t offset) {
-    return mapped(at, bytes, rights, how, file, offset, HERE);
+    return KEEPING_FRAME(mapped(at, bytes, rights, how, file, offset, HERE));
 }
 
 /* What is unmapped is forgotten first, since the memory may be another thread's at once. */

@@ -1,6 +1,7 @@
 /* Notices: a thread that is done says so with a lock held, and signals a condition. Another one waits for that with the lock, and then joins the
-   thread with the lock held. That join waits for nobody who needs the lock, since the thread has had it for the last time. What a thread says isn't
-   seen: a notice is told by when the one took the lock and signalled, and the other one waited. */
+   thread with the lock held. If the thread has had the lock for the last time, that join waits for nobody who needs it, however long the thread goes
+   on. What a thread says isn't seen: a notice is told by when the one took the lock and signalled, and the other one waited. So it may have said
+   something else, as that there is something to do, and take the lock once more in another run: the join is a weak acquisition. */
 #include "held.h"
 
 /* Grows as a thread begins to wait for a condition, and as it comes back. Who signals one only looks at it, so that it needn't wait for others. */
@@ -22,11 +23,12 @@ static uint64_t releases_left(const struct thread *t) {
 static void put_notice(struct thread *t, uintptr_t condition) {
     struct raw_notice *notices = t->raw->notices;
     uintptr_t lock = t->entries[t->depth ? t->depth - 1 : 0].held.lock;
+    bool is_again = notices[0].condition == condition || notices[1].condition == condition;
     if (lock == NO_LOCK)
         return;
     if (notices[0].condition != condition)
         notices[1] = notices[0];
-    notices[0] = (struct raw_notice){condition, lock, LOAD(&moment), t->raw->calls + releases_left(t), t->raw->pauses, t->depth < 2};
+    notices[0] = (struct raw_notice){condition, lock, LOAD(&moment), t->raw->calls + releases_left(t), t->raw->pauses, t->depth < 2, is_again};
 }
 
 /* A thread signals a condition. Only one that was started may be joined. */
@@ -89,16 +91,13 @@ void end_hearing(const struct hearing *hearing, uintptr_t lock, uintptr_t condit
 
 /* ---- Whether it was heard. */
 
-/* What this thread has heard of a condition with this hold of the lock, or NULL. */
-static const struct heard *heard_of(const struct thread *t, const struct held *h, uintptr_t condition) {
-    for (int i = 0; i < MOST_HEARD; i++)
-        if (t->heard[i].since == h->since && t->heard[i].condition == condition)
-            return &t->heard[i];
-    return NULL;
-}
-
-static bool is_between(const struct heard *heard, const struct raw_notice *notice) {
-    return heard->from <= notice->moment && notice->moment <= heard->to;
+static bool is_heard(const struct thread *t, uint32_t since, const struct raw_notice *notice) {
+    for (int i = 0; i < MOST_HEARD; i++) {
+        const struct heard *h = &t->heard[i];
+        if (h->since == since && h->condition == notice->condition && h->from <= notice->moment && notice->moment <= h->to)
+            return true;
+    }
+    return false;
 }
 
 static bool is_shared_condition(uintptr_t condition) {
@@ -117,47 +116,24 @@ static bool is_last(const struct raw_thread *raw, const struct raw_notice *notic
     return raw->pauses == notice->pauses && (raw->calls == notice->calls || is_before_one(raw, notice));
 }
 
-/* Whether a thread that has ended, and ran the same function, gave the same notice when this one waited for it. */
-#define MOST_ALIKE 1024 /* threads that are looked at, the newest ones */
-static bool is_heard_from_another(const struct heard *heard, const struct raw_thread *raw, const struct raw_notice *notice) {
-    uint32_t used = LOAD(&arena->regions[RAW_THREADS].used), room = arena->regions[RAW_THREADS].room, last = used < room ? used : room;
-    for (uint32_t number = last; number > 0 && number + MOST_ALIKE > last; number--) {
-        const struct raw_thread *other = part_of(RAW_THREADS, number);
-        bool is_alike = raw->start && other->start == raw->start && other->process == own_process && LOAD(&other->ended);
-        const struct raw_notice *same = &other->notices[other->notices[0].condition != notice->condition];
-        if (is_alike && same->condition == notice->condition && same->lock == notice->lock && is_between(heard, same) && is_last(other, same))
-            return true;
-    }
-    return false;
-}
-
-/* A thread that was done before this one waited is heard if another one of its kind was: who waits for all of several waits for it too. */
-static bool is_heard(const struct heard *heard, const struct raw_thread *raw, const struct raw_notice *notice) {
-    return heard && (is_between(heard, notice) || (notice->moment < heard->from && is_heard_from_another(heard, raw, notice)));
-}
-
 /* The notice that the thread has given with a lock that this one holds, or NULL. */
 static const struct raw_notice *notice_with(const struct thread *t, const struct held *h, const struct raw_thread *raw) {
     for (int i = 0; i < RAW_NOTICES; i++) {
         const struct raw_notice *notice = &raw->notices[i];
-        bool is_of_this = notice->lock == h->lock && is_last(raw, notice) && !is_shared_condition(notice->condition);
-        if (is_of_this && is_heard(heard_of(t, h, notice->condition), raw, notice))
+        bool is_only_one = notice->lock == h->lock && !notice->is_again;
+        if (is_only_one && is_heard(t, h->since, notice) && is_last(raw, notice) && !is_shared_condition(notice->condition))
             return notice;
     }
     return NULL;
 }
 
-/* How many locks this thread held already when it took the one with which the other has given it notice; or how many it holds, if there was none.
-   `takes_one` says of a notice whether the other one took one more lock after that. */
-uint32_t held_before_notice(const struct raw_thread *raw, bool *takes_one) {
+/* Whether the thread, which has ended, has given this one notice with the lock that it took first of those that it holds. `takes_one` says whether it
+   took one more lock after that. (A thread that another one may wait for is held under all of these: nothing is said there.) */
+bool has_given_notice(const struct raw_thread *raw, bool *takes_one) {
     const struct thread *t = self.thread;
-    for (uint32_t i = 0; i < t->depth; i++) {
-        const struct held *h = &t->entries[i].held;
-        const struct raw_notice *notice = h->since && !is_in_shared_memory(raw_object(h->what[BY_OBJECTS])) ? notice_with(t, h, raw) : NULL;
-        if (!notice)
-            continue;
-        *takes_one = raw->calls != notice->calls;
-        return i;
-    }
-    return t->depth;
+    const struct held *first = t && t->depth && !t->is_started ? &t->entries[0].held : NULL;
+    bool has_waited = first && first->since && !is_in_shared_memory(raw_object(first->what[BY_OBJECTS]));
+    const struct raw_notice *notice = has_waited ? notice_with(t, first, raw) : NULL;
+    *takes_one = notice && raw->calls != notice->calls;
+    return notice != NULL;
 }

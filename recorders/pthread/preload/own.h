@@ -191,6 +191,15 @@ struct call {
 };
 #define HERE ((struct call){CALLER, FRAME})
 
+/* The value of a call with HERE among its arguments, if that is all that is left to do: the frame has to stay meanwhile, since the caller's rbp lies
+   there. */
+#define KEEPING_FRAME(expression)                                                                                      \
+    ({                                                                                                                 \
+        __typeof__(expression) value = (expression);                                                                   \
+        __asm__ volatile("");                                                                                          \
+        value;                                                                                                         \
+    })
+
 struct stack {
     uint64_t element; /* of an array that is allocated there, as in raw_place */
     uint32_t count;
@@ -385,7 +394,6 @@ bool begin_wish(uintptr_t lock, uint8_t mode, enum kind kind, struct call call);
 bool end_wish(uintptr_t lock, bool is_taken, struct call call);
 bool wish_for_end(uintptr_t thread, uint32_t object, uint8_t mode, struct call call); /* inside the recorder; end_wish is to follow */
 void pass_end(uintptr_t thread, uint32_t object, uint8_t mode, struct call call); /* inside the recorder */
-bool pass_end_early(uintptr_t thread, uint32_t object, uint8_t mode, const struct raw_thread *raw, bool *takes_one, struct call call); /* the same */
 bool has_trace(void);
 void note_pause(void); /* this thread begins to wait for something, or doesn't wait for it any more */
 bool has_passed_on(const struct raw_thread *raw); /* a thread holds nothing, and has held last what this one holds now */
@@ -492,7 +500,7 @@ struct hearing { /* a wait for a condition: when it began, and with which hold o
 void note_signal(uintptr_t condition, struct call call);
 struct hearing begin_hearing(uintptr_t lock);
 void end_hearing(const struct hearing *hearing, uintptr_t lock, uintptr_t condition);
-uint32_t held_before_notice(const struct raw_thread *raw, bool *takes_one);
+bool has_given_notice(const struct raw_thread *raw, bool *takes_one);
 
 /* ---- joins.c */
 

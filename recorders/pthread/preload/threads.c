@@ -840,29 +840,31 @@ static void note_if_own(struct thread *t, uintptr_t lock, uint32_t handed_on) {
             note_new(lock, t->number, handed_on);
 }
 
-/* Whether this thread has initialised the lock with nothing held, and handed nothing on since. */
-static bool is_own_made(const struct thread *t, uintptr_t lock, uint32_t handed_on) {
-    uint32_t count = t->own_made_count < OWN_MADE ? t->own_made_count : OWN_MADE;
-    for (uint32_t i = 0; i < count; i++)
-        if (t->own_made[i].address == lock && t->own_made[i].handed_on == handed_on)
+/* Whether this thread has initialised the lock with nothing held, and handed nothing on since. Of one that has made more than a few so it isn't known. */
+static bool is_own_made(const struct thread *t, uintptr_t lock) {
+    for (uint32_t i = 0; i < t->own_made_count && i < OWN_MADE; i++)
+        if (t->own_made[i] == lock)
             return true;
     return false;
 }
 
+static bool has_made_few(const struct thread *t, uint32_t handed_on) { return t->made_at == handed_on && t->own_made_count <= OWN_MADE; }
+
 static bool are_own_made(const struct thread *t, uint32_t handed_on) { return !t->depth || (t->own_depth == t->depth && t->own_at == handed_on); }
 
-/* A lock that this thread takes next, without waiting for it, is such a one. When another thread comes to it, it isn't any more. */
+/* A lock that this thread takes next, without waiting for it, is such a one. When another thread comes to it, it isn't any more. Static ones are known
+   to all. */
 static void note_if_own_made(struct thread *t, uintptr_t lock, uint32_t handed_on) {
-    if (t->made_at != handed_on || !are_own_made(t, handed_on) || !is_own_made(t, lock, handed_on))
+    if (!has_made_few(t, handed_on) || !are_own_made(t, handed_on) || !is_own_made(t, lock) || known_module(lock))
         return;
     note_new(lock, t->number, handed_on);
     t->own_depth = t->depth + 1;
     t->own_at = handed_on;
 }
 
-/* Whether nobody else has come to any lock that is held: who has the next one doesn't wait for these. */
-static bool is_under_new(const struct thread *t, uint32_t handed_on) {
-    if (!t->depth || !are_own_made(t, handed_on))
+/* Whether nobody else has come to any lock that is held: who has the next one, which this thread hasn't made as well, doesn't wait for these. */
+static bool is_under_new(const struct thread *t, uintptr_t lock, uint32_t handed_on) {
+    if (!t->depth || !has_made_few(t, handed_on) || !are_own_made(t, handed_on) || is_own_made(t, lock))
         return false;
     for (uint32_t i = 0; i < t->depth; i++)
         if (!comes_to_new(t->entries[i].held.lock, t->number, handed_on))
@@ -886,7 +888,7 @@ static inline uint32_t object_to_hold(struct thread *t, uintptr_t lock, uint8_t 
     bool is_new = object && comes_to_new(lock, t->number, handed_on(t) - 1), waits = raw_plain(*mode) < MODE_TRY_WRITE;
     if (waits && is_new)
         *mode |= RAW_NEW;
-    else if (waits && RARELY(t->made_at == handed_on(t) - 1) && object && is_under_new(t, handed_on(t) - 1))
+    else if (waits && RARELY(t->made_at == handed_on(t) - 1) && object && is_under_new(t, lock, handed_on(t) - 1))
         *mode |= RAW_UNDER_NEW;
     if (!t->depth)
         *mode &= (uint8_t)(t->is_started ? ~RAW_NEW : ~RAW_WEAK);
@@ -1141,54 +1143,6 @@ void pass_end(uintptr_t thread, uint32_t object, uint8_t mode, struct call call)
         return;
     push_held(t, thread, object, mode_of_end(t, mode), KIND_THREAD, call, false);
     release_at(t, t->depth - 1, call.caller);
-}
-
-/* Gives back what is held from one lock on; then it is as if this thread hadn't taken that yet. */
-#define MOST_ASIDE 8
-struct aside {
-    struct held held;
-    uint32_t place;
-};
-
-static void set_aside(struct thread *t, uint32_t from, struct aside *aside, uintptr_t caller) {
-    for (uint32_t i = t->depth; i-- > from;) {
-        const struct held *h = &t->entries[i].held;
-        aside[i - from] = (struct aside){*h, h->is_written ? record_at(t, h->record)->place : 0};
-        release_at(t, i, caller);
-    }
-}
-
-/* Takes it again, where it was taken before. */
-static void take_back(struct thread *t, const struct aside *aside, uint32_t count, struct call call) {
-    for (const struct aside *a = aside; a < aside + count; a++) {
-        push_held(t, a->held.lock, object_of(&a->held), mode_with_weak(&a->held), (enum kind)a->held.kind, call, a->held.is_wish);
-        struct held *h = &t->entries[t->depth - 1].held;
-        h->depth = a->held.depth;
-        h->released = a->held.released;
-        h->since = a->held.since;
-        if (h->is_written && a->held.is_written)
-            record_at(t, h->record)->place = a->place;
-    }
-}
-
-/* Passes the end of a thread that has given notice to this one, as if this one had joined it before it took the lock with which it waited for that.
-   False if there was no notice: then nothing was done. `takes_one` says of a thread that gave one whether it took one more lock after that. */
-bool pass_end_early(uintptr_t thread, uint32_t object, uint8_t mode, const struct raw_thread *raw, bool *takes_one, struct call call) {
-    struct thread *t = self.thread;
-    struct aside aside[MOST_ASIDE];
-    settle_to_take(t, call);
-    uint32_t before = held_before_notice(raw, takes_one), count = t->depth - before;
-    if (!count || count > MOST_ASIDE)
-        return false;
-    if (!before && !t->is_started)
-        return true;
-    uint64_t failed_under = t->failed_under;
-    set_aside(t, before, aside, call.caller);
-    push_held(t, thread, object, mode, KIND_THREAD, call, false);
-    release_at(t, t->depth - 1, call.caller);
-    take_back(t, aside, count, call);
-    t->failed_under = failed_under;
-    return true;
 }
 
 void pass_lock(uintptr_t lock, uint8_t mode, enum kind kind, struct call call) {
@@ -1460,6 +1414,15 @@ static void end_holds_between(struct thread *t, uintptr_t from, uintptr_t to, ui
 
 void end_own_holds(uintptr_t from, uintptr_t to, struct call call) { end_holds_between(self.thread, from, to, call.caller); }
 
+/* Those before were handed on if something was since. */
+static void note_own_made(struct thread *t, uintptr_t lock) {
+    if (t->made_at != handed_on(t))
+        t->own_made_count = 0;
+    t->made_at = handed_on(t);
+    t->own_made[t->own_made_count % OWN_MADE] = lock;
+    t->own_made_count += t->own_made_count <= OWN_MADE;
+}
+
 void initialised(uintptr_t lock, struct call call) {
     struct thread *t = IS_WANTED(lock, call) ? enter(call) : NULL;
     if (!t)
@@ -1469,10 +1432,8 @@ void initialised(uintptr_t lock, struct call call) {
     keep_nesting(lock);
     if (is_own && t->depth)
         note_new(lock, t->number, handed_on(t));
-    else if (is_own) {
-        t->made_at = handed_on(t);
-        t->own_made[t->own_made_count++ % OWN_MADE] = (struct own_piece){lock, t->made_at};
-    }
+    else if (is_own)
+        note_own_made(t, lock);
     leave();
 }
 

@@ -2,7 +2,7 @@
      held     the lock that the thread takes, which goes on until it is waited for: a cycle
      made     the same, and the lock is initialised by a call
      ended    as held, but the thread ends at once, and is joined only then
-     says     the thread says under the lock that it is done, and is joined with the lock held when it has said so
+     says     the thread says under the lock that it is done, and who joins it with the lock held waits for that
      exits    the same, and then it ends by pthread_exit, when it is waited for
      cleans   the same, but then it takes a lock of its own, when it is waited for
      queues   as cleans, and another thread has that lock, which it gives back as soon as the thread waits for it
@@ -25,8 +25,7 @@
      many     40 threads one after the other with the lock held, of which the last takes it
      hangs    as held, and the joiner is first
      made_hangs as made, and the joiner is first
-     asleep   as held, but the thread gives the lock back before, and doesn't end
-   With `heard_` before it, who joins the thread has waited for what it says, by the condition that it signals. */
+     asleep   as held, but the thread gives the lock back before, and doesn't end */
 #include "common.h"
 #include "asleep.h"
 #include <sched.h>
@@ -40,7 +39,6 @@ static pthread_cond_t has_said = PTHREAD_COND_INITIALIZER;
 static const char *way;
 static pthread_t first;
 static int is_done;                            /* what `finisher` says */
-static int is_heard;
 static int goes_on, has_released, is_last = 1; /* of `worker`, and whether nothing comes before its join */
 
 static int is(const char *name) { return strcmp(way, name) == 0; }
@@ -112,7 +110,7 @@ static void *finisher(void *unused) {
     if (is("works"))
         TAKE(&state);
     pthread_mutex_lock(&log_lock);
-    set(&is_done, 1);
+    is_done = 1;
     pthread_cond_signal(&has_said);
     pthread_mutex_unlock(&log_lock);
     if (ends_joined())
@@ -202,24 +200,13 @@ static void stay_soon(void) {
     setitimer(ITIMER_REAL, &soon, NULL);
 }
 
-/* Starts the finisher, and takes the lock when it is done. If it is to be heard it is started with the lock held. */
-static pthread_t await_finisher(void) {
-    pthread_t thread;
-    if (is_heard)
-        pthread_mutex_lock(&log_lock);
-    pthread_create(&thread, NULL, finisher, NULL);
-    if (!is_heard) {
-        await(&is_done);
-        pthread_mutex_lock(&log_lock);
-    }
-    while (!is_done)
-        pthread_cond_wait(&has_said, &log_lock);
-    return thread;
-}
-
 static void join_finisher(void) {
     pthread_mutex_t *held = is("works") ? &state : &log_lock;
-    pthread_t thread = await_finisher();
+    pthread_t thread;
+    pthread_create(&thread, NULL, finisher, NULL);
+    pthread_mutex_lock(&log_lock);
+    while (!is_done)
+        pthread_cond_wait(&has_said, &log_lock);
     if (is("works")) {
         pthread_mutex_unlock(&log_lock);
         pthread_mutex_lock(&state);
@@ -265,8 +252,6 @@ static void join_many(void) {
 
 int main(int argc, char **argv) {
     way = argc > 1 ? argv[1] : "held";
-    is_heard = strncmp(way, "heard_", 6) == 0;
-    way += is_heard ? 6 : 0;
     if (is("made") || is("made_hangs")) {
         pthread_mutex_init(&made, NULL);
         taken = &made;

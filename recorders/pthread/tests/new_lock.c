@@ -5,11 +5,12 @@
 
    Or it is made with nothing held, and `global` is taken under it, as when an object goes into a list (`inserts`); by a thread that is joined
    (`by_thread`), with `global` held (`joined`). Or before that its maker has released another lock (`kept`), another thread has tried it
-   (`known`), or another lock is held as well (`beside`), or another one that is new (`pair`).
+   (`known`), or another lock is held as well (`beside`), or another one that is new (`pair`). Or it is a static one (`statics`), or one of many
+   (`many`), or what is taken under it was made by the same thread then (`both`).
 
    Or between making and taking it there the maker hands it on: to a thread that it starts (`started`), under a lock that it releases (`listed`),
-   or by a semaphore (`posted`). Nothing is handed on if it only takes and releases the new lock (`twice`), or takes a recursive lock that it
-   holds once more (`recursive`), or if it starts a thread before (`earlier`). */
+   by a semaphore (`posted`), or at a barrier (`passed`). Nothing is handed on if it only takes and releases the new lock (`twice`), or takes a
+   recursive lock that it holds once more (`recursive`), or if it starts a thread before (`earlier`). */
 #include "common.h"
 
 #include <sched.h>
@@ -80,6 +81,13 @@ static void *in_the_other_order(void *unused) {
     return unused;
 }
 
+static void pass_barrier(void) {
+    pthread_barrier_t barrier;
+    pthread_barrier_init(&barrier, NULL, 1);
+    pthread_barrier_wait(&barrier);
+    pthread_barrier_destroy(&barrier);
+}
+
 /* The lock is made and taken under `global`, and in between its maker does what is asked for. */
 static void make_and(const char *way) {
     pthread_t waiter;
@@ -95,6 +103,8 @@ static void make_and(const char *way) {
         take_and_give(&other);
     if (strcmp(way, "posted") == 0)
         sem_post(&posted);
+    if (strcmp(way, "passed") == 0)
+        pass_barrier();
     if (strcmp(way, "twice") == 0)
         take_and_give(shared);
     if (strcmp(way, "recursive") == 0)
@@ -149,6 +159,8 @@ static void have_tried(void) {
     await(&is_done);
 }
 
+static pthread_mutex_t *inner = &global;
+
 /* The lock is taken, under another one or not, and `global` with it held. */
 static void insert(pthread_mutex_t *under, void (*first)(void)) {
     if (under)
@@ -156,7 +168,7 @@ static void insert(pthread_mutex_t *under, void (*first)(void)) {
     pthread_mutex_lock(shared);
     if (first)
         first();
-    take_and_give(&global);
+    take_and_give(inner);
     pthread_mutex_unlock(shared);
     if (under)
         pthread_mutex_unlock(under);
@@ -195,24 +207,56 @@ static void make_pair(void) {
     insert(&second, NULL);
 }
 
-THREAD(use_inserted, use_again())
+static void make_both(void) {
+    make();
+    inner = malloc(sizeof *inner);
+    pthread_mutex_init(inner, NULL);
+    insert(NULL, NULL);
+}
+
+static void make_static(void) {
+    static pthread_mutex_t lock;
+    pthread_mutex_init(&lock, NULL);
+    shared = &lock;
+    insert(NULL, NULL);
+}
+
+#define MANY 40
+static void make_many(void) {
+    pthread_mutex_t *all = malloc(MANY * sizeof *all);
+    for (int i = 0; i < MANY; i++)
+        pthread_mutex_init(&all[i], NULL);
+    shared = &all[MANY - 1];
+    insert(NULL, NULL);
+}
+
+static void make_here(void) { make_and_insert(NULL); }
+static void make_by_thread(void) { make_in_thread(0); }
+static void make_by_joined(void) { make_in_thread(1); }
+
+static void make_and_keep(void) {
+    make();
+    take_and_give(&other);
+    insert(NULL, NULL);
+}
+
+static void make_beside(void) {
+    make();
+    insert(&other, NULL);
+}
+
+static const struct {
+    const char *name;
+    void (*run)(void);
+} ways[] = {{"inserts", make_here},  {"by_thread", make_by_thread}, {"joined", make_by_joined}, {"kept", make_and_keep},  {"known", make_known},
+            {"beside", make_beside}, {"pair", make_pair},           {"both", make_both},        {"statics", make_static}, {"many", make_many}};
+
+THREAD(use_inserted, NEST(inner, shared))
 
 static int has_inserted(const char *way) {
-    if (strcmp(way, "inserts") == 0)
-        make_and_insert(NULL);
-    else if (strcmp(way, "by_thread") == 0 || strcmp(way, "joined") == 0)
-        make_in_thread(strcmp(way, "joined") == 0);
-    else if (strcmp(way, "kept") == 0) {
-        make();
-        take_and_give(&other);
-        insert(NULL, NULL);
-    } else if (strcmp(way, "known") == 0)
-        make_known();
-    else if (strcmp(way, "beside") == 0) {
-        make();
-        insert(&other, NULL);
-    } else if (strcmp(way, "pair") == 0)
-        make_pair();
+    for (size_t i = 0; i < sizeof ways / sizeof *ways; i++)
+        if (strcmp(way, ways[i].name) == 0)
+            ways[i].run();
     return shared != NULL;
 }
 
@@ -220,7 +264,7 @@ int main(int argc, char **argv) {
     const char *way = argc > 1 ? argv[1] : "";
     if (strcmp(way, "recursive") == 0)
         make_recursive(&global);
-    if (is_among(way, "started listed posted twice recursive earlier")) {
+    if (is_among(way, "started listed posted passed twice recursive earlier")) {
         make_and(way);
         return 0;
     }

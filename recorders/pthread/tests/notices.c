@@ -1,20 +1,20 @@
 /* A thread that is joined with the lock held with which it has said that it is done, in ways that differ by what it does, and by what the one
-   that joins it has waited for. In each it has ended when it is joined.
-     signal    it signals the condition under the lock, and the joiner waits for that: no order
+   that joins it has waited for. It goes on for a while before it ends, but for `before` and `earlier`, and `pool`, where the first one ends.
+     signal    it signals the condition under the lock, and the joiner waits for that
      broadcast, timed, clock, c11    the same by other calls; timed waits give up some times before
      after     it signals when it has released the lock
      nested    it has another lock besides when it signals
      first     it signals another condition after that
+     again     it has signalled the condition before, with the lock held
      many      four threads, which are joined one after the other
      pool      the same, but the first one has ended before the joiner takes the lock
-     unlike    the same, and that one runs another function
      deep      the lock is recursive, and both have it twice
      cleans    it takes a lock of its own after that
      crosses   the same, and another thread takes that lock, and under it the one that is held: a cycle of these two
      above     the lock that both take is another one, which the joiner takes when it has waited
      below     the same, which the joiner has while it waits: the order stays
      started   that one is held by who joins the joiner
-     twice     the thread takes the lock once more after it has signalled
+     twice     the thread takes the lock once more after it has signalled, and has ended when a third thread ends the wait
      unheard   the joiner waits for another condition, which a third thread signals
      earlier   it signals before the joiner waits for the first time, which a third thread ends
      by_other  a third thread signals
@@ -76,6 +76,9 @@ static void handler(int unused) {
     pthread_cond_signal(&s->changed);
 }
 
+/* The thread takes the lock only when it is given back to wait, unless it is to come before. */
+static int comes_before(void) { return is("before") || is("earlier") || is("pool"); }
+
 /* ---- The thread that is joined. */
 
 static void say(void) {
@@ -107,6 +110,11 @@ static void go_on(void) {
 }
 
 static void begin(void) {
+    if (is("again")) {
+        pthread_mutex_lock(&s->state);
+        pthread_cond_signal(&s->changed);
+        pthread_mutex_unlock(&s->state);
+    }
     if (is("above") || is("below") || is("started") || is("other"))
         TAKE(&used);
     set(&has_used, 1);
@@ -114,6 +122,13 @@ static void begin(void) {
         await(&may_say);
     if (is("timed") || is("clock"))
         usleep(20000);
+}
+
+#define LIVES_ON 50000 /* microseconds; much longer than a join looks whether the thread ends */
+
+static void live_on(void) {
+    if (!comes_before())
+        usleep(LIVES_ON);
 }
 
 static void *worker(void *unused) {
@@ -132,6 +147,7 @@ static void *worker(void *unused) {
     go_on();
     if (is("stays"))
         pause();
+    live_on();
     return unused;
 }
 
@@ -141,14 +157,18 @@ static int c11_worker(void *unused) {
     set(&numbers[done++], (int)syscall(SYS_gettid));
     cnd_signal(&c11_changed);
     mtx_unlock(&c11_state);
+    live_on();
     return 0;
 }
 
 /* ---- A third thread. */
 
-/* Signals what the joiner waits for, when the other thread has ended. */
+/* Signals what the joiner waits for, when the other thread has said that it is done, or has ended. */
 static void *signaller(void *unused) {
-    await_end(0);
+    if (is("unheard") || is("by_other"))
+        await(&numbers[0]);
+    else
+        await_end(0);
     pthread_mutex_lock(&s->state);
     set(&is_told, 1);
     pthread_cond_signal(is("unheard") ? &other_changed : &s->changed);
@@ -186,9 +206,6 @@ static void wait_once(void) {
         pthread_cond_wait(is("unheard") ? &other_changed : &s->changed, &s->state);
 }
 
-/* The thread takes the lock only when it is given back to wait, unless it is to come before. */
-static int comes_before(void) { return is("before") || is("earlier") || is("pool") || is("unlike"); }
-
 static int waits_for_third(void) { return is("unheard") || is("earlier") || is("by_other") || is("twice"); }
 
 static pthread_t started(void *(*run)(void *)) {
@@ -221,8 +238,6 @@ static void release_all(void) {
         pthread_mutex_unlock(&s->state);
 }
 
-static void *unlike_worker(void *unused) { return worker(unused); }
-
 static void start_all(pthread_t *threads, int from) {
     for (int i = from; i < wanted; i++)
         threads[i] = started(worker);
@@ -231,7 +246,7 @@ static void start_all(pthread_t *threads, int from) {
 /* Starts the threads with the lock held, or takes it when they have ended. */
 static void start_and_lock(pthread_t *threads) {
     if (comes_before()) {
-        threads[0] = started(is("unlike") ? unlike_worker : worker);
+        threads[0] = started(worker);
         await_end(0);
     }
     pthread_mutex_lock(&s->state);
@@ -248,8 +263,6 @@ static void start_and_lock_both(pthread_t *threads) {
 }
 
 static void join_all(const pthread_t *threads) {
-    for (int i = 0; i < wanted && !is("stays"); i++)
-        await_end(i);
     for (int i = 0; i < wanted; i++)
         pthread_join(threads[i], NULL);
     release_all();
@@ -282,7 +295,6 @@ static void join_c11(void) {
     thrd_create(&thread, c11_worker, NULL);
     while (!done)
         cnd_wait(&c11_changed, &c11_state);
-    await_end(0);
     thrd_join(thread, NULL);
     mtx_unlock(&c11_state);
 }
@@ -338,7 +350,7 @@ int main(int argc, char **argv) {
         end_when_asleep();
     if (is("crosses"))
         in_thread(crosser, NULL);
-    wanted = is("many") || is("pool") || is("unlike") ? MOST : 1;
+    wanted = is("many") || is("pool") ? MOST : 1;
     if (is("c11"))
         join_c11();
     else if (is("forked"))
