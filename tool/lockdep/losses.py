@@ -25,7 +25,7 @@ REASONS: dict[str, str] = {
     "rust-built": "it is built to be recorded, by `lockdep run --recorder rust`",
     "rust-gone": "it is gone or was started elsewhere, and may be written in Rust, since a tool of Rust's ran",
     "rust-tool": "its own locks are all that was seen, and not those of what it builds",
-    "libpython": "it runs Python, whose threading.Lock is not a pthread lock: only the interpreter's own locks are seen; "
+    "libpython": "it runs Python, or is linked with Python, whose threading.Lock is not a pthread lock: only the interpreter's own locks are seen; "
                  "`lockdep run --recorder python` sees the program's",
     "libjvm": "it runs Java, whose locks are not those of pthreads: only the virtual machine's own locks are seen; "
               "`lockdep run --recorder java` sees the program's",
