@@ -31,6 +31,8 @@ final class Task {
 
     /** Where the newest constructor that is told its place is called; 0 once it was asked. */
     int making;
+    /** A word of the call through `super` that is being made. */
+    long word;
     boolean isOver;
     /** While the task is being examined. */
     private boolean isBusy;
@@ -297,8 +299,14 @@ final class Task {
     private void takeAgain(Known lock) {
         Held entry = again(lock);
         if (entry == null) leaveOut(lock.target);
-        else if (entry.isReader() == lock.isReader) entry.levels++;
-        else entry.reads++;
+        else if (entry.isReader() != lock.isReader) entry.reads++;
+        else if (!lock.hasLevels(entry.levels)) entry.levels++;
+    }
+
+    /** How often a lock is known to be held in its own way. */
+    int levels(Known lock) {
+        Held entry = find(lock.target, false, lock.isReader);
+        return entry == null ? 0 : entry.levels;
     }
 
     /** What was wanted wasn't taken. */

@@ -28,6 +28,7 @@ final class Hierarchy implements AutoCloseable {
             LOCKS + "ReentrantReadWriteLock");
     private static final Set<String> SYNCHRONIZER = Set.of(LOCKS + "AbstractQueuedSynchronizer",
             LOCKS + "AbstractQueuedLongSynchronizer");
+    static final Set<String> STAMPED = Set.of(LOCKS + "StampedLock");
     private static final Set<String> THREAD = Set.of("java/lang/Thread");
     static final int MOST_ABOVE = 16;
 
@@ -82,6 +83,10 @@ final class Hierarchy implements AutoCloseable {
     /** Whether a class is a Lock, or one below it. */
     boolean isLock(String name) {
         return isBelow(name, LOCK, MOST_ABOVE);
+    }
+
+    boolean isStamped(String name) {
+        return isBelow(name, STAMPED, MOST_ABOVE);
     }
 
     boolean isThread(String name) {

@@ -93,7 +93,7 @@ final class MethodRewriter {
     boolean mayRelease() {
         for (int at = method.start; at < method.end; at = type.after(at, method)) {
             int opcode = type.opcode(at);
-            boolean isCall = opcode == Opcodes.INVOKEVIRTUAL || opcode == Opcodes.INVOKEINTERFACE;
+            boolean isCall = opcode != Opcodes.INVOKESTATIC && opcode != Opcodes.INVOKEDYNAMIC;
             if (opcode < Opcodes.INVOKEVIRTUAL || opcode > Opcodes.INVOKEDYNAMIC || !wanted.matters(type.number(at + 1))) continue;
             if (opcode == Opcodes.INVOKEDYNAMIC && hasReferenceToRelease(type.number(at + 1))) return true;
             if (isCall && Calls.isRelease(type.nameOfMember(type.number(at + 1)))) return true;
@@ -210,6 +210,10 @@ final class MethodRewriter {
         if (Calls.makesAndStarts(call)) makeAndStart(call, at);
         String receiver = Calls.receiver(call, wanted.hierarchy);
         if (receiver == null) return;
+        if (Calls.isThroughSuper(call)) {
+            rewriteSuper(call, receiver, at, next);
+            return;
+        }
         isChanged = true;
         if (Calls.stays(call)) {
             surround(call.name, at, next);
@@ -293,6 +297,54 @@ final class MethodRewriter {
             default:
                 call(site(first), Hook.BEGINS);
         }
+    }
+
+    /** A call through `super` stays. In a method that is recorded where it is called, it isn't recorded again. */
+    private void rewriteSuper(Calls.Call call, String receiver, int at, int next) {
+        boolean isPart = call.owner.equals(type.name) || Calls.isRecordedOutside(name, descriptor);
+        if (isPart && !call.name.equals("start")) return;
+        boolean isLock = call.name.equals("lock") || call.name.equals("lockInterruptibly");
+        if (call.name.equals("unlock") && call.descriptor.equals("()V")) {
+            supers(site(before(at).put(Opcodes.DUP)), "unlocks", "(" + SuperCall.LOCK + "I)V");
+        } else if (isLock || Calls.stays(call)) {
+            surround(isLock ? "lock" : call.name, at, next);
+        } else if (call.descriptor.startsWith("()")) {
+            surroundWithoutWords(SuperCall.of(call), call, at, next);
+        } else {
+            surroundWithWords(SuperCall.of(call), call, "L" + receiver + ";", at, next);
+        }
+    }
+
+    private void surroundWithoutWords(SuperCall call, Calls.Call called, int at, int next) {
+        if (call.before != null) {
+            supers(site(before(at).put(Opcodes.DUP)), call.before, "(" + SuperCall.STAMPED + "I)V");
+        }
+        if (call.after == null) return;
+        before(at).put(Opcodes.DUP);
+        String result = called.descriptor.substring(2);
+        supers(site(behind(next)), call.after, "(" + SuperCall.STAMPED + result + "I)" + result);
+    }
+
+    /** The object of the call is below its words on the stack, and also in its variable. */
+    private void surroundWithWords(SuperCall call, Calls.Call called, String receiver, int at, int next) {
+        boolean hasObject = !method.isStatic() || descriptor.startsWith("(L" + type.name + ";");
+        if (!hasObject || new Frames(type, method, descriptor).isStoredOver())
+                throw new IllegalStateException("its method " + name + " changes `this`");
+        if (call.after == null) {
+            supers(site(before(at).put(ALOAD_0)), call.before, "(J" + receiver + "I)J");
+            return;
+        }
+        boolean hasUnit = !called.descriptor.startsWith("(J)");
+        Bytes first = before(at);
+        if (hasUnit) first.put(Opcodes.DUP_X2).put(Opcodes.POP);
+        supers(first.put(Opcodes.DUP2), call.before, "(J)V");
+        if (hasUnit) first.put(Opcodes.DUP2_X1).put(Opcodes.POP2);
+        String result = called.descriptor.substring(called.descriptor.indexOf(')') + 1);
+        supers(site(behind(next).put(ALOAD_0)), call.after, "(" + result + receiver + "I)" + result);
+    }
+
+    private Bytes supers(Bytes to, String called, String words) {
+        return to.put(Opcodes.INVOKESTATIC).putShort(constants.method(SuperCall.SUPERS, called, words));
     }
 
     /**
