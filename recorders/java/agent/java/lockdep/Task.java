@@ -3,6 +3,7 @@ package java.lockdep;
 import java.lang.invoke.VarHandle;
 import java.lang.ref.WeakReference;
 import java.util.Arrays;
+import java.util.concurrent.TimeUnit;
 
 /**
  * A thread: what it holds, and its records that aren't in the file yet. Only the thread itself works on it, except at
@@ -31,8 +32,9 @@ final class Task {
 
     /** Where the newest constructor that is told its place is called; 0 once it was asked. */
     int making;
-    /** A word of the call through `super` that is being made. */
+    /** Words of the call that is being made, if Supers or Maybe keep them. */
     long word;
+    TimeUnit unit;
     boolean isOver;
     /** While the task is being examined. */
     private boolean isBusy;

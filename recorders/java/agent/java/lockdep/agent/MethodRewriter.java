@@ -209,7 +209,10 @@ final class MethodRewriter {
         if (Calls.definesHidden(call)) defineHidden(call, at);
         if (Calls.makesAndStarts(call)) makeAndStart(call, at);
         String receiver = Calls.receiver(call, wanted.hierarchy);
-        if (receiver == null) return;
+        if (receiver == null) {
+            if (MaybeCall.isOne(call, wanted.hierarchy)) ask(call, at, next);
+            return;
+        }
         if (Calls.isThroughSuper(call)) {
             rewriteSuper(call, receiver, at, next);
             return;
@@ -341,6 +344,38 @@ final class MethodRewriter {
         if (hasUnit) first.put(Opcodes.DUP2_X1).put(Opcodes.POP2);
         String result = called.descriptor.substring(called.descriptor.indexOf(')') + 1);
         supers(site(behind(next).put(ALOAD_0)), call.after, "(" + result + receiver + "I)" + result);
+    }
+
+    /** A call stays whose object may be a lock or a thread, which is asked when it is made. */
+    private void ask(Calls.Call call, int at, int next) {
+        MaybeCall asked = MaybeCall.of(call);
+        if (asked == null) {
+            askWithWords(call, at, next);
+            return;
+        }
+        if (asked.before != null) maybe(site(before(at).put(Opcodes.DUP)), asked.before, MaybeCall.wordsBefore());
+        if (asked.after == null) return;
+        before(at).put(Opcodes.DUP);
+        Bytes last = behind(next);
+        maybe(asked.after.equals("made") ? last : site(last), asked.after, asked.wordsAfter);
+    }
+
+    private void askWithWords(Calls.Call call, int at, int next) {
+        Bytes first = before(at);
+        if (!call.name.equals("tryLock")) {
+            first.put(Opcodes.DUP2_X1).put(Opcodes.POP2).put(Opcodes.DUP_X2);
+            maybe(site(first), "joins", "(JLjava/lang/Object;I)J");
+            return;
+        }
+        String unit = "Ljava/util/concurrent/TimeUnit;";
+        maybe(first, "tries", "(Ljava/lang/Object;J" + unit + ")Ljava/lang/Object;").put(Opcodes.DUP);
+        if (call.opcode == Opcodes.INVOKEVIRTUAL) first.put(Opcodes.CHECKCAST).putShort(constants.type(call.owner));
+        maybe(maybe(first, "time", "()J"), "unit", "()" + unit);
+        maybe(site(behind(next)), "timed", "(Ljava/lang/Object;ZI)Z");
+    }
+
+    private Bytes maybe(Bytes to, String called, String words) {
+        return to.put(Opcodes.INVOKESTATIC).putShort(constants.method(MaybeCall.MAYBE, called, words));
     }
 
     private Bytes supers(Bytes to, String called, String words) {
