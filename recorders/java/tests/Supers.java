@@ -85,7 +85,11 @@ public class Supers {
             long reader = super.tryConvertToReadLock(super.writeLock());
             long writer = super.tryConvertToWriteLock(reader);
             super.tryConvertToOptimisticRead(writer);
-            super.asWriteLock().lock();
+            try {
+                super.unlockWrite(writer);
+            } catch (IllegalMonitorStateException expected) {
+                super.asWriteLock().lock();
+            }
             super.asWriteLock().unlock();
             monitor();
         }
@@ -96,11 +100,25 @@ public class Supers {
         }
     }
 
+    /** Its methods have names of those of a Lock, which it is not. */
+    static class Like extends StampedLock {
+        private long stamp;
+
+        void lock() {
+            stamp = super.writeLock();
+        }
+
+        void unlock() {
+            super.unlockWrite(stamp);
+        }
+    }
+
     static final Object monitor = new Object();
     static final Own own = new Own();
     static final Overrides overrides = new Overrides();
     static final OverridesUnlock overridesUnlock = new OverridesUnlock();
     static final Stamped stamped = new Stamped();
+    static final Like like = new Like();
 
     static void monitor() {
         synchronized (monitor) {
@@ -157,6 +175,13 @@ public class Supers {
         monitor();
     }
 
+    static void takesLike() {
+        like.lock();
+        monitor();
+        like.unlock();
+        monitor();
+    }
+
     void waits() throws InterruptedException {
         synchronized (this) {
             synchronized (monitor) {
@@ -173,7 +198,7 @@ public class Supers {
         Supers waiting = new Supers();
         for (Failing what : new Failing[] {Supers::takes, Supers::takesHere, own::tries, own::refers, Supers::takesOverridden,
             Supers::takesOverriddenAtOnce, Supers::releasesOverridden, Supers::takesStamped, stamped::takes, stamped::tries, stamped::changes,
-            waiting::waits}) {
+            waiting::waits, Supers::takesLike}) {
             Thread thread = new Thread(() -> {
                 try {
                     what.run();

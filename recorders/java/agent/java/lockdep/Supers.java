@@ -104,30 +104,31 @@ public final class Supers {
 
     /** A stamped lock is about to be released. */
     public static long unlockWrite(long stamp, StampedLock lock, int site) {
-        return unlock(stamp, Part.of(lock, false), site);
+        return unlock(stamp, Part.of(lock, false), lock.isWriteLocked(), site);
     }
 
     public static long unlockRead(long stamp, StampedLock lock, int site) {
-        return unlock(stamp, Part.of(lock, true), site);
+        return unlock(stamp, Part.of(lock, true), lock.isReadLocked(), site);
     }
 
     public static long unlock(long stamp, StampedLock lock, int site) {
-        return unlock(stamp, Part.of(lock, StampedLock.isReadLockStamp(stamp)), site);
+        return StampedLock.isReadLockStamp(stamp) ? unlockRead(stamp, lock, site) : unlockWrite(stamp, lock, site);
     }
 
-    private static long unlock(long stamp, Object part, int site) {
-        if (!Hooks.gives(part, site)) Hooks.gaveUnseen(part);
+    /** (A lock that isn't held refuses to be released.) */
+    private static long unlock(long stamp, Object part, boolean isHeld, int site) {
+        if (!Hooks.gives(part, site) && isHeld) Hooks.gaveUnseen(part);
         return stamp;
     }
 
     /** Its release was tried. */
     public static boolean triedToUnlockWrite(StampedLock lock, boolean isGiven, int site) {
-        if (isGiven) unlock(0, Part.of(lock, false), site);
+        if (isGiven) unlock(0, Part.of(lock, false), true, site);
         return isGiven;
     }
 
     public static boolean triedToUnlockRead(StampedLock lock, boolean isGiven, int site) {
-        if (isGiven) unlock(0, Part.of(lock, true), site);
+        if (isGiven) unlock(0, Part.of(lock, true), true, site);
         return isGiven;
     }
 

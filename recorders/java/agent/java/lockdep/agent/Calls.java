@@ -202,10 +202,9 @@ final class Calls {
         return call.opcode == Opcodes.INVOKESPECIAL && !WAITS.contains(call.name + call.descriptor) && !call.name.equals("join");
     }
 
-    /** Whether a method overrides one whose calls are recorded, so that what it calls through `super` is part of that. */
-    static boolean isRecordedOutside(String name, String descriptor) {
-        String signature = name + descriptor;
-        return OF_LOCK.contains(signature) || OF_STAMPED.contains(signature) || signature.equals(MAKER);
+    /** Whether calls of a method are recorded, so that what it calls through `super` is part of that. */
+    static boolean isRecordedOutside(String owner, String name, String descriptor, Hierarchy hierarchy) {
+        return receiver(new Call(Opcodes.INVOKEVIRTUAL, owner, name, descriptor), hierarchy) != null;
     }
 
     private static boolean isLock(String owner, Hierarchy hierarchy) {

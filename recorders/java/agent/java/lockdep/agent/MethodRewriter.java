@@ -304,7 +304,7 @@ final class MethodRewriter {
 
     /** A call through `super` stays. In a method that is recorded where it is called, it isn't recorded again. */
     private void rewriteSuper(Calls.Call call, String receiver, int at, int next) {
-        boolean isPart = call.owner.equals(type.name) || Calls.isRecordedOutside(name, descriptor);
+        boolean isPart = call.owner.equals(type.name) || Calls.isRecordedOutside(type.name, name, descriptor, wanted.hierarchy);
         if (isPart && !call.name.equals("start")) return;
         boolean isLock = call.name.equals("lock") || call.name.equals("lockInterruptibly");
         if (call.name.equals("unlock") && call.descriptor.equals("()V")) {
