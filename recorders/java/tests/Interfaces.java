@@ -1,6 +1,7 @@
 import java.util.concurrent.TimeUnit;
 import java.util.concurrent.locks.Condition;
 import java.util.concurrent.locks.ReentrantLock;
+import java.util.function.Consumer;
 
 /** Calls through an interface of the program's own, whose methods a class below a lock of the JDK inherits; and another class has. */
 public class Interfaces {
@@ -110,12 +111,28 @@ public class Interfaces {
         if (!other.calls.equals(wanted)) throw new AssertionError(other.calls);
     }
 
+    static void refers(Mutex mutex) {
+        Consumer<Mutex> in = Mutex::lock;
+        Runnable out = mutex::unlock;
+        in.accept(mutex);
+        monitor();
+        out.run();
+        monitor();
+    }
+
+    static void refersToOther() {
+        Other referred = new Other();
+        refers(referred);
+        if (!referred.calls.equals("lock unlock ")) throw new AssertionError(referred.calls);
+    }
+
     interface Failing {
         void run() throws InterruptedException;
     }
 
     public static void main(String[] words) throws InterruptedException {
-        for (Failing what : new Failing[] {mutex::takes, Interfaces::takesHere, () -> tries(mutex), Interfaces::waits, Interfaces::isOther}) {
+        for (Failing what : new Failing[] {mutex::takes, Interfaces::takesHere, () -> tries(mutex), Interfaces::waits, Interfaces::isOther,
+            () -> refers(mutex), Interfaces::refersToOther}) {
             Thread thread = new Thread(() -> {
                 try {
                     what.run();

@@ -11,6 +11,8 @@ import org.objectweb.asm.Opcodes;
  */
 final class MaybeCall {
     static final String MAYBE = "java/lockdep/Maybe";
+    static final String REFERENCES = "java/lockdep/MaybeReferences";
+    static final String HANDLE = "Ljava/lang/invoke/MethodHandle;";
     static final String TIMED = "tryLock(JLjava/util/concurrent/TimeUnit;)Z";
     static final String JOIN_IN_TIME = "join(J)V";
     private static final String OBJECT = "Ljava/lang/Object;";

@@ -396,6 +396,10 @@ final class MethodRewriter {
             if (type.kind(handle) != ClassFile.HANDLE || !Calls.mayBeReference(type, handle)) continue;
             boolean isMaker = Calls.isMaker(type, handle);
             String receiver = isMaker ? "" : Calls.receiverOfReference(Calls.referred(type, handle), wanted.hierarchy);
+            if (receiver == null && MaybeCall.isOne(Calls.referred(type, handle), wanted.hierarchy)) {
+                askByReference(at, call, word, handle);
+                return;
+            }
             String changed = receiver == null || isMaker && !made.startsWith("()") ? null : Calls.withPlace(made, receiver);
             if (changed == null) continue;
             int instead = isMaker ? maker(handle) : caller(receiver, handle);
@@ -404,6 +408,23 @@ final class MethodRewriter {
             code.instead(at).put(Opcodes.INVOKEDYNAMIC).putShort(constants.dynamicCall(call, changed, word, instead)).putShort(0);
             return;
         }
+    }
+
+    /** A reference gets its place and what it refers to first, as its object may be a lock or a thread. */
+    private void askByReference(int at, int call, int word, int handle) {
+        String made = type.descriptor(call);
+        String changed = Calls.withPlace(made, "java/lang/Object");
+        if (changed == null) return;
+        int called = type.part(handle, 2);
+        String words = "(I" + MaybeCall.HANDLE + "Ljava/lang/Object;" + type.descriptor(called).substring(1);
+        int instead = constants.handle(constants.method(MaybeCall.REFERENCES, type.nameOfMember(called), words));
+        boolean hasObject = !made.startsWith("()");
+        Bytes added = site(before(at));
+        if (hasObject) added.put(Opcodes.SWAP);
+        load(added, handle);
+        if (hasObject) added.put(Opcodes.SWAP);
+        String all = "(I" + MaybeCall.HANDLE + changed.substring(2);
+        code.instead(at).put(Opcodes.INVOKEDYNAMIC).putShort(constants.dynamicCall(call, all, word, instead)).putShort(0);
     }
 
     /** What is called instead of a method of a lock, a condition or a thread. */
