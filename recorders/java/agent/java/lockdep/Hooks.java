@@ -570,7 +570,7 @@ public final class Hooks {
         return changed(lock, stamp, lock.tryConvertToOptimisticRead(stamp), site);
     }
 
-    private static long changed(StampedLock lock, long old, long stamp, int site) {
+    static long changed(StampedLock lock, long old, long stamp, int site) {
         if (stamp != 0) {
             change(lock, StampedLock.isWriteLockStamp(old), StampedLock.isReadLockStamp(old),
                     StampedLock.isWriteLockStamp(stamp),

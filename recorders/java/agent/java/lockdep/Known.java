@@ -24,6 +24,8 @@ final class Known extends WeakReference<Object> {
     /** Whether its holder may take it again, and whether it is a lock of the JDK, whose calls take no other. */
     final boolean isReentrant;
     final boolean isOfJdk;
+    /** Whether its class is one of the program's below ReentrantLock, and may override methods. */
+    private final boolean isOwn;
     /** What is written instead of it: itself, unless it is a part. */
     final Known target;
     private Made made;
@@ -52,6 +54,7 @@ final class Known extends WeakReference<Object> {
         isOfJdk = object.getClass().getClassLoader() == null || object instanceof ReentrantLock
                 || object instanceof ReentrantReadWriteLock.ReadLock
                         || object instanceof ReentrantReadWriteLock.WriteLock;
+        isOwn = object instanceof ReentrantLock && object.getClass() != ReentrantLock.class;
         key = made == null ? 0 : made.rest.number;
     }
 
@@ -179,6 +182,15 @@ final class Known extends WeakReference<Object> {
         } catch (IllegalAccessException closed) {
             return lock;
         }
+    }
+
+    /**
+     * Whether a lock of a class below ReentrantLock has just so many levels: then an acquisition is recorded, as the one
+     * through `super` that another method makes for its override.
+     */
+    boolean hasLevels(int levels) {
+        Object lock = isOwn ? get() : null;
+        return lock != null && ((ReentrantLock) lock).getHoldCount() == levels;
     }
 
     /** Whether the running thread holds a read lock, or that can't be known. */

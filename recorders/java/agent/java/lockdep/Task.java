@@ -3,6 +3,7 @@ package java.lockdep;
 import java.lang.invoke.VarHandle;
 import java.lang.ref.WeakReference;
 import java.util.Arrays;
+import java.util.concurrent.TimeUnit;
 
 /**
  * A thread: what it holds, and its records that aren't in the file yet. Only the thread itself works on it, except at
@@ -31,6 +32,9 @@ final class Task {
 
     /** Where the newest constructor that is told its place is called; 0 once it was asked. */
     int making;
+    /** Words of the call that is being made, if Supers or Maybe keep them. */
+    long word;
+    TimeUnit unit;
     boolean isOver;
     /** While the task is being examined. */
     private boolean isBusy;
@@ -297,8 +301,14 @@ final class Task {
     private void takeAgain(Known lock) {
         Held entry = again(lock);
         if (entry == null) leaveOut(lock.target);
-        else if (entry.isReader() == lock.isReader) entry.levels++;
-        else entry.reads++;
+        else if (entry.isReader() != lock.isReader) entry.reads++;
+        else if (!lock.hasLevels(entry.levels)) entry.levels++;
+    }
+
+    /** How often a lock is known to be held in its own way. */
+    int levels(Known lock) {
+        Held entry = find(lock.target, false, lock.isReader);
+        return entry == null ? 0 : entry.levels;
     }
 
     /** What was wanted wasn't taken. */

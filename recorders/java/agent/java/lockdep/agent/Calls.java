@@ -160,23 +160,22 @@ final class Calls {
         return hasFlags && (type.value(type.number(bootstrap + 4 + 2 * FLAGS)) & LambdaMetafactory.FLAG_SERIALIZABLE) == 0;
     }
 
-    /** The type that the call of Hooks has for the call's object; null if the call stays. */
+    /** The type that the call of Hooks has for the call's object; null if the call isn't recorded. */
     static String receiver(Call call, Hierarchy hierarchy) {
-        if (call.opcode != Opcodes.INVOKEVIRTUAL && call.opcode != Opcodes.INVOKEINTERFACE) return null;
+        if (call.opcode < Opcodes.INVOKEVIRTUAL || call.opcode > Opcodes.INVOKEINTERFACE || call.opcode == Opcodes.INVOKESTATIC) return null;
         if (!NAMES.has(call.name)) return null;
         String signature = call.name + call.descriptor;
         if (WAITS.contains(signature)) return "java/lang/Object";
         // (as an object of any class, so that the JVM needn't load that class to see that it is a thread, which no
         // interface is)
         if (OF_THREAD.contains(signature) || signature.equals(JOIN_FOR)) {
-            boolean mayBeThread = call.opcode == Opcodes.INVOKEVIRTUAL && hierarchy.isThread(call.owner);
+            boolean mayBeThread = call.opcode != Opcodes.INVOKEINTERFACE && hierarchy.isThread(call.owner);
             return mayBeThread ? "java/lang/Object" : null;
         }
         if (OF_LOCK.contains(signature)) return isLock(call.owner, hierarchy) ? LOCK : null;
         if (signature.equals(MAKER)) return isLock(call.owner, hierarchy) ? LOCK : null;
         if (OF_CONDITION.contains(signature)) return call.owner.equals(CONDITION) ? CONDITION : null;
-        if (OF_STAMPED.contains(signature)) return call.owner.equals(STAMPED) ? STAMPED : null;
-        if (VIEWS.containsKey(signature)) return call.owner.equals(STAMPED) ? STAMPED : null;
+        if (OF_STAMPED.contains(signature) || VIEWS.containsKey(signature)) return hierarchy.isStamped(call.owner) ? STAMPED : null;
         if (OF_UNIT.contains(signature)) return call.owner.equals("java/util/concurrent/TimeUnit") ? call.owner : null;
         return OF_RUNTIME.contains(signature) && call.owner.equals("java/lang/Runtime") ? "java/lang/Runtime" : null;
     }
@@ -193,6 +192,19 @@ final class Calls {
     static boolean hasSite(Call call) {
         return !call.name.equals("newCondition") && !call.name.equals("halt")
                 && !VIEWS.containsKey(call.name + call.descriptor);
+    }
+
+    /**
+     * Whether a call is one through `super` of a method that may be overridden. (Others are as if the object were another
+     * one.)
+     */
+    static boolean isThroughSuper(Call call) {
+        return call.opcode == Opcodes.INVOKESPECIAL && !WAITS.contains(call.name + call.descriptor) && !call.name.equals("join");
+    }
+
+    /** Whether calls of a method are recorded, so that what it calls through `super` is part of that. */
+    static boolean isRecordedOutside(String owner, String name, String descriptor, Hierarchy hierarchy) {
+        return receiver(new Call(Opcodes.INVOKEVIRTUAL, owner, name, descriptor), hierarchy) != null;
     }
 
     private static boolean isLock(String owner, Hierarchy hierarchy) {

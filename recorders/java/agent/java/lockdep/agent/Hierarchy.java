@@ -8,6 +8,7 @@ import java.io.Serializable;
 import java.lang.ref.Reference;
 import java.lang.ref.ReferenceQueue;
 import java.lang.ref.WeakReference;
+import java.util.HashSet;
 import java.util.Set;
 import java.util.concurrent.ConcurrentHashMap;
 import java.util.concurrent.atomic.AtomicReference;
@@ -28,6 +29,7 @@ final class Hierarchy implements AutoCloseable {
             LOCKS + "ReentrantReadWriteLock");
     private static final Set<String> SYNCHRONIZER = Set.of(LOCKS + "AbstractQueuedSynchronizer",
             LOCKS + "AbstractQueuedLongSynchronizer");
+    static final Set<String> STAMPED = Set.of(LOCKS + "StampedLock");
     private static final Set<String> THREAD = Set.of("java/lang/Thread");
     static final int MOST_ABOVE = 16;
 
@@ -38,6 +40,8 @@ final class Hierarchy implements AutoCloseable {
     /** The same once it was opened: one of these. */
     private File folder;
     private Jar jar;
+    /** Classes whose files were looked for, for the class that asks, and not found. */
+    private final Set<String> unfound = new HashSet<>(0);
     /** The class that asks, if it is hidden. */
     private String hiddenName;
     private Facts hidden;
@@ -84,6 +88,10 @@ final class Hierarchy implements AutoCloseable {
         return isBelow(name, LOCK, MOST_ABOVE);
     }
 
+    boolean isStamped(String name) {
+        return isBelow(name, STAMPED, MOST_ABOVE);
+    }
+
     boolean isThread(String name) {
         return isBelow(name, THREAD, MOST_ABOVE);
     }
@@ -105,6 +113,21 @@ final class Hierarchy implements AutoCloseable {
         if (isBelow(facts.superName, wanted, most - 1)) return true;
         for (String above : facts.interfaces) {
             if (isBelow(above, wanted, most - 1)) return true;
+        }
+        return false;
+    }
+
+    /** Whether a class, or one above it, is of the program and has no file that is found. */
+    boolean isUnknown(String name) {
+        return isUnknown(name, MOST_ABOVE);
+    }
+
+    private boolean isUnknown(String name, int most) {
+        if (name == null || most == 0 || name.startsWith("java/") || name.startsWith("[")) return false;
+        Facts facts = facts(name);
+        if (facts == null || isUnknown(facts.superName, most - 1)) return true;
+        for (String above : facts.interfaces) {
+            if (isUnknown(above, most - 1)) return true;
         }
         return false;
     }
@@ -158,7 +181,9 @@ final class Hierarchy implements AutoCloseable {
         if (name.equals(hiddenName)) return hidden;
         Facts found = known.classes.get(name);
         if (found != null) return found;
+        if (isFarLookedFor && unfound.contains(name)) return null;
         ClassFile type = read(name + ".class", isFarLookedFor);
+        if (type == null && isFarLookedFor) unfound.add(name);
         if (type == null) return null;
         found = new Facts(type, new Locking(type));
         known.classes.put(name, found);

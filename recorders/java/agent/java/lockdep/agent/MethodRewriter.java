@@ -93,7 +93,7 @@ final class MethodRewriter {
     boolean mayRelease() {
         for (int at = method.start; at < method.end; at = type.after(at, method)) {
             int opcode = type.opcode(at);
-            boolean isCall = opcode == Opcodes.INVOKEVIRTUAL || opcode == Opcodes.INVOKEINTERFACE;
+            boolean isCall = opcode != Opcodes.INVOKESTATIC && opcode != Opcodes.INVOKEDYNAMIC;
             if (opcode < Opcodes.INVOKEVIRTUAL || opcode > Opcodes.INVOKEDYNAMIC || !wanted.matters(type.number(at + 1))) continue;
             if (opcode == Opcodes.INVOKEDYNAMIC && hasReferenceToRelease(type.number(at + 1))) return true;
             if (isCall && Calls.isRelease(type.nameOfMember(type.number(at + 1)))) return true;
@@ -209,7 +209,14 @@ final class MethodRewriter {
         if (Calls.definesHidden(call)) defineHidden(call, at);
         if (Calls.makesAndStarts(call)) makeAndStart(call, at);
         String receiver = Calls.receiver(call, wanted.hierarchy);
-        if (receiver == null) return;
+        if (receiver == null) {
+            if (MaybeCall.isOne(call, wanted.hierarchy)) ask(call, at, next);
+            return;
+        }
+        if (Calls.isThroughSuper(call)) {
+            rewriteSuper(call, receiver, at, next);
+            return;
+        }
         isChanged = true;
         if (Calls.stays(call)) {
             surround(call.name, at, next);
@@ -295,6 +302,86 @@ final class MethodRewriter {
         }
     }
 
+    /** A call through `super` stays. In a method that is recorded where it is called, it isn't recorded again. */
+    private void rewriteSuper(Calls.Call call, String receiver, int at, int next) {
+        boolean isPart = call.owner.equals(type.name) || Calls.isRecordedOutside(type.name, name, descriptor, wanted.hierarchy);
+        if (isPart && !call.name.equals("start")) return;
+        boolean isLock = call.name.equals("lock") || call.name.equals("lockInterruptibly");
+        if (call.name.equals("unlock") && call.descriptor.equals("()V")) {
+            supers(site(before(at).put(Opcodes.DUP)), "unlocks", "(" + SuperCall.LOCK + "I)V");
+        } else if (isLock || Calls.stays(call)) {
+            surround(isLock ? "lock" : call.name, at, next);
+        } else if (call.descriptor.startsWith("()")) {
+            surroundWithoutWords(SuperCall.of(call), call, at, next);
+        } else {
+            surroundWithWords(SuperCall.of(call), call, "L" + receiver + ";", at, next);
+        }
+    }
+
+    private void surroundWithoutWords(SuperCall call, Calls.Call called, int at, int next) {
+        if (call.before != null) {
+            supers(site(before(at).put(Opcodes.DUP)), call.before, "(" + SuperCall.STAMPED + "I)V");
+        }
+        if (call.after == null) return;
+        before(at).put(Opcodes.DUP);
+        String result = called.descriptor.substring(2);
+        supers(site(behind(next)), call.after, "(" + SuperCall.STAMPED + result + "I)" + result);
+    }
+
+    /** The object of the call is below its words on the stack, and also in its variable. */
+    private void surroundWithWords(SuperCall call, Calls.Call called, String receiver, int at, int next) {
+        boolean hasObject = !method.isStatic() || descriptor.startsWith("(L" + type.name + ";");
+        if (!hasObject || new Frames(type, method, descriptor).isStoredOver())
+                throw new IllegalStateException("its method " + name + " changes `this`");
+        if (call.after == null) {
+            supers(site(before(at).put(ALOAD_0)), call.before, "(J" + receiver + "I)J");
+            return;
+        }
+        boolean hasUnit = !called.descriptor.startsWith("(J)");
+        Bytes first = before(at);
+        if (hasUnit) first.put(Opcodes.DUP_X2).put(Opcodes.POP);
+        supers(first.put(Opcodes.DUP2), call.before, "(J)V");
+        if (hasUnit) first.put(Opcodes.DUP2_X1).put(Opcodes.POP2);
+        String result = called.descriptor.substring(called.descriptor.indexOf(')') + 1);
+        supers(site(behind(next).put(ALOAD_0)), call.after, "(" + result + receiver + "I)" + result);
+    }
+
+    /** A call stays whose object may be a lock or a thread, which is asked when it is made. */
+    private void ask(Calls.Call call, int at, int next) {
+        MaybeCall asked = MaybeCall.of(call);
+        if (asked == null) {
+            askWithWords(call, at, next);
+            return;
+        }
+        if (asked.before != null) maybe(site(before(at).put(Opcodes.DUP)), asked.before, MaybeCall.wordsBefore());
+        if (asked.after == null) return;
+        before(at).put(Opcodes.DUP);
+        Bytes last = behind(next);
+        maybe(asked.after.equals("made") ? last : site(last), asked.after, asked.wordsAfter);
+    }
+
+    private void askWithWords(Calls.Call call, int at, int next) {
+        Bytes first = before(at);
+        if (!call.name.equals("tryLock")) {
+            first.put(Opcodes.DUP2_X1).put(Opcodes.POP2).put(Opcodes.DUP_X2);
+            maybe(site(first), "joins", "(JLjava/lang/Object;I)J");
+            return;
+        }
+        String unit = "Ljava/util/concurrent/TimeUnit;";
+        maybe(first, "tries", "(Ljava/lang/Object;J" + unit + ")Ljava/lang/Object;").put(Opcodes.DUP);
+        if (call.opcode == Opcodes.INVOKEVIRTUAL) first.put(Opcodes.CHECKCAST).putShort(constants.type(call.owner));
+        maybe(maybe(first, "time", "()J"), "unit", "()" + unit);
+        maybe(site(behind(next)), "timed", "(Ljava/lang/Object;ZI)Z");
+    }
+
+    private Bytes maybe(Bytes to, String called, String words) {
+        return to.put(Opcodes.INVOKESTATIC).putShort(constants.method(MaybeCall.MAYBE, called, words));
+    }
+
+    private Bytes supers(Bytes to, String called, String words) {
+        return to.put(Opcodes.INVOKESTATIC).putShort(constants.method(SuperCall.SUPERS, called, words));
+    }
+
     /**
      * References to methods of locks, such as `lock::unlock`, of conditions and of threads, or to constructors of locks, become
      * references to what is called instead, which gets their place first. None of their words but their object may be known.
@@ -309,6 +396,10 @@ final class MethodRewriter {
             if (type.kind(handle) != ClassFile.HANDLE || !Calls.mayBeReference(type, handle)) continue;
             boolean isMaker = Calls.isMaker(type, handle);
             String receiver = isMaker ? "" : Calls.receiverOfReference(Calls.referred(type, handle), wanted.hierarchy);
+            if (receiver == null && MaybeCall.isOne(Calls.referred(type, handle), wanted.hierarchy)) {
+                askByReference(at, call, word, handle);
+                return;
+            }
             String changed = receiver == null || isMaker && !made.startsWith("()") ? null : Calls.withPlace(made, receiver);
             if (changed == null) continue;
             int instead = isMaker ? maker(handle) : caller(receiver, handle);
@@ -317,6 +408,23 @@ final class MethodRewriter {
             code.instead(at).put(Opcodes.INVOKEDYNAMIC).putShort(constants.dynamicCall(call, changed, word, instead)).putShort(0);
             return;
         }
+    }
+
+    /** A reference gets its place and what it refers to first, as its object may be a lock or a thread. */
+    private void askByReference(int at, int call, int word, int handle) {
+        String made = type.descriptor(call);
+        String changed = Calls.withPlace(made, "java/lang/Object");
+        if (changed == null) return;
+        int called = type.part(handle, 2);
+        String words = "(I" + MaybeCall.HANDLE + "Ljava/lang/Object;" + type.descriptor(called).substring(1);
+        int instead = constants.handle(constants.method(MaybeCall.REFERENCES, type.nameOfMember(called), words));
+        boolean hasObject = !made.startsWith("()");
+        Bytes added = site(before(at));
+        if (hasObject) added.put(Opcodes.SWAP);
+        load(added, handle);
+        if (hasObject) added.put(Opcodes.SWAP);
+        String all = "(I" + MaybeCall.HANDLE + changed.substring(2);
+        code.instead(at).put(Opcodes.INVOKEDYNAMIC).putShort(constants.dynamicCall(call, all, word, instead)).putShort(0);
     }
 
     /** What is called instead of a method of a lock, a condition or a thread. */
