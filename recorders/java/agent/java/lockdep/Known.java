@@ -217,19 +217,27 @@ final class Known extends WeakReference<Object> {
 
     /**
      * A lock is taken alone by a thread that may be joined: the first ones of a class get their own names even so, since
-     * they may be held by who joins it.
+     * they may be held by who joins it. If it is found out later where such a lock is made, its name there is another one,
+     * as long as it wasn't nested.
      */
     void tellApartEarly() {
-        if (!isApart && !isEarly && made != null && made.hasEarly()) tellApart();
+        if (isApart || made == null || key != made.rest.number || !made.hasEarly()) return;
+        if (isEarly) addNumber();
+        else tellApart();
     }
 
     /** A lock that is nested with others gets its own name, if not too many of its class have one. */
     @Apart
     synchronized void tellApart() {
         if (isApart) return;
+        addNumber();
+        isApart = true;
+    }
+
+    private synchronized void addNumber() {
+        if (key != made.rest.number) return;
         int ordinal = made.nextOrdinal();
         if (ordinal <= MOST_APART) key = Key.add(made, ordinal).number;
-        isApart = true;
     }
 
     // ---- Locks that another thread may release.
