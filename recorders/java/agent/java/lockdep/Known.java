@@ -17,6 +17,8 @@ import java.util.concurrent.locks.StampedLock;
  */
 final class Known extends WeakReference<Object> {
     static final int MOST_APART = 32;
+    private static final int MOST_GIVERS = 8;
+    private static final Known[] NO_GIVERS = {};
 
     final int hash;
     final boolean isMonitor;
@@ -33,6 +35,8 @@ final class Known extends WeakReference<Object> {
     private boolean isEarly;
     /** Who holds a lock that another thread may release. */
     private Task[] holders;
+    /** Of a condition: the locks that give it out beside its own, the newest ones. */
+    private volatile Known[] givers = NO_GIVERS;
     /** Of a thread as a lock: its task, once it has one; whether somebody waits for its end; and whether the file says so. */
     volatile Task task;
     volatile boolean isWaitedFor;
@@ -118,7 +122,28 @@ final class Known extends WeakReference<Object> {
     }
 
     static void addCondition(Condition condition, Known lock) {
-        if (condition != null && find(condition, false) == null) add(condition, false, false, lock.target, null);
+        if (condition == null) return;
+        Known known = find(condition, false);
+        if (known == null) add(condition, false, false, lock.target, null);
+        else if (known.target != lock.target) known.addGiver(lock.target);
+    }
+
+    /** One of the program's own locks gives out a condition of the lock that it is built on: who waits for it holds both. */
+    private synchronized void addGiver(Known lock) {
+        if (isGivenOutBy(lock)) return;
+        Known[] before = givers;
+        int count = Math.min(before.length, MOST_GIVERS - 1);
+        Known[] more = new Known[count + 1];
+        System.arraycopy(before, before.length - count, more, 0, count);
+        more[count] = lock;
+        givers = more;
+    }
+
+    boolean isGivenOutBy(Known lock) {
+        for (Known giver : givers) {
+            if (giver == lock) return true;
+        }
+        return false;
     }
 
     // ---- Locks that are taken.
