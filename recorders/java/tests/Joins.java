@@ -4,7 +4,7 @@ import java.util.concurrent.locks.ReentrantLock;
  * Threads that are joined, in ways that differ by what is held meanwhile: the lock that the thread takes (held, timed,
  * unit, hangs, and ended, whose thread has ended before), one that it doesn't take (other), none (none); by a thread that
  * joins the one that takes it (passed); and threads that take none (idle), of which there are many before one that
- * does (many).
+ * does (many). An interrupt may end the wait: pending before it, soon after it began, or pending before a timed one.
  */
 public class Joins {
     private static final ReentrantLock state = new ReentrantLock();
@@ -118,5 +118,29 @@ public class Joins {
             java.util.concurrent.TimeUnit.SECONDS.timedJoin(thread, 5);
             state.unlock();
         }
+        if (way.startsWith("interrupted")) joinInterrupted();
+    }
+
+    static void joinInterrupted() throws InterruptedException {
+        goesOn = true;
+        Thread thread = started(Joins::work);
+        if (way.equals("interrupted soon")) {
+            new Thread(Joins::interruptMain).start();
+        } else {
+            main.interrupt();
+        }
+        state.lock();
+        try {
+            thread.join(way.equals("interrupted timed") ? 5000 : 0);
+        } catch (InterruptedException expected) {
+            state.unlock();
+        }
+        goesOn = false;
+        thread.join();
+    }
+
+    static void interruptMain() {
+        while (main.getState() != Thread.State.TIMED_WAITING) Thread.onSpinWait();
+        main.interrupt();
     }
 }

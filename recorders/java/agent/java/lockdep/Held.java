@@ -12,6 +12,9 @@ final class Held {
     /** How often its holder has taken it, and how often as a reader while holding it as a writer. */
     int levels;
     int reads;
+    /** How much its task had taken with it, and before the call began by which it was taken. */
+    long number;
+    long callBegan;
     /** Its callers, for Provoke. */
     long[] stack = {};
     /** Another thread released it. */

@@ -245,6 +245,7 @@ public final class Hooks {
         try {
             Known known = task.lock(lock);
             if (known.isOfJdk) task.want(known, Modes.Manner.WAITS, site);
+            else task.beginsCall(known);
         } catch (Throwable error) {
             task.abandon(error);
             return;

@@ -76,11 +76,22 @@ final class Join {
         boolean isTimed = milliseconds != 0 || nanoseconds != 0;
         Join join = of(thread, isTimed, site);
         boolean isShort = isTimed && milliseconds <= PATIENCE;
-        if (join == null || isShort) thread.join(milliseconds, nanoseconds);
-        else thread.join(PATIENCE);
+        try {
+            if (join == null || isShort) thread.join(milliseconds, nanoseconds);
+            else thread.join(PATIENCE);
+        } catch (InterruptedException brokenOff) {
+            if (join != null && join.manner == Modes.Manner.WAITS) join.breakOff();
+            throw brokenOff;
+        }
         if (join == null) return;
         if (!thread.isAlive()) join.pass();
         else if (!isShort) join.waitLong(thread, isTimed ? milliseconds - PATIENCE : 0, nanoseconds);
+    }
+
+    /** An interrupt ended it before it was written. It would have waited for ever, so its order is written even so. */
+    private void breakOff() {
+        want();
+        end(true);
     }
 
     private void waitLong(Thread thread, long milliseconds, int nanoseconds) throws InterruptedException {

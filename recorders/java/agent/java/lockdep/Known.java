@@ -17,6 +17,8 @@ import java.util.concurrent.locks.StampedLock;
  */
 final class Known extends WeakReference<Object> {
     static final int MOST_APART = 32;
+    private static final int MOST_GIVERS = 8;
+    private static final Known[] NO_GIVERS = {};
 
     final int hash;
     final boolean isMonitor;
@@ -35,6 +37,8 @@ final class Known extends WeakReference<Object> {
     private boolean isEarly;
     /** Who holds a lock that another thread may release. */
     private Task[] holders;
+    /** Of a condition: the locks that give it out beside its own, the newest ones. */
+    private volatile Known[] givers = NO_GIVERS;
     /** Of a thread as a lock: its task, once it has one; whether somebody waits for its end; and whether the file says so. */
     volatile Task task;
     volatile boolean isWaitedFor;
@@ -121,7 +125,28 @@ final class Known extends WeakReference<Object> {
     }
 
     static void addCondition(Condition condition, Known lock) {
-        if (condition != null && find(condition, false) == null) add(condition, false, false, lock.target, null);
+        if (condition == null) return;
+        Known known = find(condition, false);
+        if (known == null) add(condition, false, false, lock.target, null);
+        else if (known.target != lock.target) known.addGiver(lock.target);
+    }
+
+    /** One of the program's own locks gives out a condition of the lock that it is built on: who waits for it holds both. */
+    private synchronized void addGiver(Known lock) {
+        if (isGivenOutBy(lock)) return;
+        Known[] before = givers;
+        int count = Math.min(before.length, MOST_GIVERS - 1);
+        Known[] more = new Known[count + 1];
+        System.arraycopy(before, before.length - count, more, 0, count);
+        more[count] = lock;
+        givers = more;
+    }
+
+    boolean isGivenOutBy(Known lock) {
+        for (Known giver : givers) {
+            if (giver == lock) return true;
+        }
+        return false;
     }
 
     // ---- Locks that are taken.
@@ -229,19 +254,27 @@ final class Known extends WeakReference<Object> {
 
     /**
      * A lock is taken alone by a thread that may be joined: the first ones of a class get their own names even so, since
-     * they may be held by who joins it.
+     * they may be held by who joins it. If it is found out later where such a lock is made, its name there is another one,
+     * as long as it wasn't nested.
      */
     void tellApartEarly() {
-        if (!isApart && !isEarly && made != null && made.hasEarly()) tellApart();
+        if (isApart || made == null || key != made.rest.number || !made.hasEarly()) return;
+        if (isEarly) addNumber();
+        else tellApart();
     }
 
     /** A lock that is nested with others gets its own name, if not too many of its class have one. */
     @Apart
     synchronized void tellApart() {
         if (isApart) return;
+        addNumber();
+        isApart = true;
+    }
+
+    private synchronized void addNumber() {
+        if (key != made.rest.number) return;
         int ordinal = made.nextOrdinal();
         if (ordinal <= MOST_APART) key = Key.add(made, ordinal).number;
-        isApart = true;
     }
 
     // ---- Locks that another thread may release.

@@ -18,7 +18,7 @@ final class Made {
     /** Those of its locks that aren't told apart, as one. */
     final Key rest;
     boolean isTold;
-    private int ordinals;
+    private volatile int ordinals;
 
     private Made(int number, String name, String place, String kind) {
         this.number = number;
@@ -75,7 +75,7 @@ final class Made {
         return Source.nameInFile(name);
     }
 
-    synchronized boolean hasEarly() {
+    boolean hasEarly() {
         return ordinals < MOST_EARLY;
     }
 

@@ -2,18 +2,16 @@ package java.lockdep;
 
 import java.util.concurrent.locks.Condition;
 
-/** A wait for a condition: all levels of its lock are released, and taken again. */
+/** A wait for a condition: all levels of its lock are released, and taken again, and so are those of what belongs to it. */
 final class Pause {
-    private static final Pause NONE = new Pause(null, null, 0);
+    private static final Pause NONE = new Pause(null, null);
 
     private final Task task;
-    private final Known lock;
-    private final int levels;
+    private final Released released;
 
-    private Pause(Task task, Known lock, int levels) {
+    private Pause(Task task, Released released) {
         this.task = task;
-        this.lock = lock;
-        this.levels = levels;
+        this.released = released;
     }
 
     static Pause of(Condition condition) {
@@ -22,8 +20,8 @@ final class Pause {
         Pause pause = NONE;
         try {
             Known known = Known.ofCondition(condition);
-            int levels = known == null ? 0 : task.suspend(known);
-            if (levels > 0) pause = new Pause(task, known, levels);
+            Released released = known == null ? null : task.suspendFor(known);
+            if (released != null) pause = new Pause(task, released);
         } catch (Throwable error) {
             task.abandon(error);
             return NONE;
@@ -35,7 +33,7 @@ final class Pause {
     void end(int site) {
         if (task == null || Task.begin() == null) return;
         try {
-            task.resume(lock, levels, site);
+            for (Released each = released; each != null; each = each.next) task.resume(each, site);
         } catch (Throwable error) {
             task.abandon(error);
             return;

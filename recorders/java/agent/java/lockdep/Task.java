@@ -58,6 +58,9 @@ final class Task {
     /** What it took without a record; null if it never did that. */
     private LeftOut leftOut;
     private Known failed;
+    /** How much it has taken, and its calls of the program's own locks; null if it never made one. */
+    private long taken;
+    private Begun begun;
     private volatile boolean hasDropped;
     /** Those that were looked up, by the last bits of their hashes. */
     private final Known[] recent = new Known[MOST_RECENT + 1];
@@ -293,7 +296,24 @@ final class Task {
     @Within
     void got(Object object, int site) {
         if (wish != null && wishOf.get() == object) grant(wishOf, wish, Modes.Manner.WAITS, site);
-        else took(lock(object), Modes.Manner.WAITS, site);
+        else gotAfterOthers(lock(object), site);
+    }
+
+    @Apart
+    private void gotAfterOthers(Known lock, int site) {
+        long callBegan = lock.isOfJdk || begun == null ? taken : begun.remove(lock, taken);
+        took(lock, Modes.Manner.WAITS, site, callBegan);
+    }
+
+    /** A call of one of the program's own locks begins, which may take others. */
+    @Apart
+    void beginsCall(Known lock) {
+        if (begun == null) begun = new Begun();
+        begun.add(lock, taken);
+    }
+
+    long taken() {
+        return taken;
     }
 
     /** What was wanted without a record was taken. */
@@ -350,13 +370,20 @@ final class Task {
 
     /** A lock was taken, by a try or by a call that other code makes. */
     void took(Known lock, Modes.Manner manner, int site) {
+        took(lock, manner, site, taken);
+    }
+
+    /** The same, by a call that began when so much had been taken. */
+    void took(Known lock, Modes.Manner manner, int site, long callBegan) {
         failed = null;
         if (again(lock) != null) {
             takeAgain(lock);
             return;
         }
         Held entry = take(lock.target, null, Modes.of(lock.isReader, manner), site);
-        if (entry != null && !lock.target.isReentrant) lock.target.addHolder(this);
+        if (entry == null) return;
+        entry.callBegan = callBegan;
+        if (!lock.target.isReentrant) lock.target.addHolder(this);
     }
 
     /** A try failed. One that is repeated at once, with other locks held, is a way of waiting that no trace shows. */
@@ -419,10 +446,24 @@ final class Task {
         }
     }
 
-    /** A lock is released for a while: how often it was taken, 0 if that wasn't seen. */
-    int suspend(Known lock) {
-        Held entry = find(lock.target, false, false);
-        return entry == null ? 0 : suspend(entry);
+    /** What a wait for a condition releases; null if its lock wasn't seen to be taken. */
+    Released suspendFor(Known condition) {
+        Held entry = find(condition.target, false, false);
+        if (entry == null) return null;
+        Released last = null;
+        long before = taken;
+        for (int at = depth - 1; at >= 0; at--) {
+            Held own = held[at];
+            if (isTakenBy(own, entry) || own != entry && condition.isGivenOutBy(own.lock)) {
+                last = new Released(own.lock, suspend(own), before, last);
+            }
+        }
+        return new Released(condition.target, suspend(entry), before, last);
+    }
+
+    /** Whether one of the program's own locks was taken by a call that took another one for it. */
+    private static boolean isTakenBy(Held own, Held other) {
+        return !own.lock.isOfJdk && own.object == null && own.callBegan < other.number && other.number < own.number;
     }
 
     private int suspend(Held entry) {
@@ -431,10 +472,13 @@ final class Task {
         return levels;
     }
 
-    void resume(Known lock, int levels, int site) {
-        Held entry = take(lock.target, null, Modes.WRITE, site);
-        if (entry != null) entry.levels = levels;
-        for (int level = 1; entry == null && level < levels; level++) leftOut.add(lock.target);
+    void resume(Released released, int site) {
+        Held entry = take(released.lock, null, Modes.WRITE, site);
+        if (entry != null) {
+            entry.levels = released.levels;
+            entry.callBegan = released.taken;
+        }
+        for (int level = 1; entry == null && level < released.levels; level++) leftOut.add(released.lock);
     }
 
     // ---- Acquisitions and releases of either kind.
@@ -482,6 +526,7 @@ final class Task {
         entry.record = entry.start = base + size;
         entry.before = way;
         entry.levels = 1;
+        entry.number = entry.callBegan = ++taken;
         way = way.to(entry.code);
         append(entry.code, way.isTaken || site == 0 ? site : placeOf(site));
         if (stand != null && site != 0) Provoke.took(entry, site);

@@ -2,20 +2,23 @@ package java.lockdep;
 
 /** A call that waits for a lock and may fail. */
 final class Wish {
-    private static final Wish NONE = new Wish(null, null, null, null);
+    private static final Wish NONE = new Wish(null, null, null, null, 0);
 
     private final Task task;
     private final Known lock;
     private final Modes.Manner manner;
     /** What is already written; null if there is nothing to write, or if it is written after the lock was taken. */
     private final Held wanted;
+    /** How much the task had taken before. */
+    private final long taken;
     private boolean isBrokenOff;
 
-    private Wish(Task task, Known lock, Modes.Manner manner, Held wanted) {
+    private Wish(Task task, Known lock, Modes.Manner manner, Held wanted, long taken) {
         this.task = task;
         this.lock = lock;
         this.manner = manner;
         this.wanted = wanted;
+        this.taken = taken;
     }
 
     /**
@@ -29,7 +32,8 @@ final class Wish {
         Wish wish;
         try {
             Known known = task.lock(lock);
-            wish = new Wish(task, known, manner, known.isOfJdk ? task.want(known, manner, site) : null);
+            long taken = task.taken();
+            wish = new Wish(task, known, manner, known.isOfJdk ? task.want(known, manner, site) : null, taken);
         } catch (Throwable error) {
             task.abandon(error);
             return NONE;
@@ -57,7 +61,7 @@ final class Wish {
         try {
             if (!isTaken) task.withdraw(wanted);
             else if (lock.isOfJdk) task.grant(lock, wanted, manner, site);
-            else task.took(lock, manner, site);
+            else task.took(lock, manner, site, taken);
         } catch (Throwable error) {
             task.abandon(error);
             return;
