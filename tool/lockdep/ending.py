@@ -2,8 +2,8 @@
 they are reported. What was asked for stands in variables LOCKDEP_RUN_*.
 
 The status is the command's. It is that of --error-exitcode if a finding that isn't known was found, or if a thread waited for a lock
-when its process ended, and 2 if the recording can't be judged: nothing of the program was seen, or the traces were refused, or
-something was left out and nothing was found in the rest."""
+when its process ended, and else 2 if the recording can't be judged: nothing of the program was seen, or the traces were refused, or
+something was left out, whether anything was found in the rest or not."""
 from __future__ import annotations
 
 import errno
