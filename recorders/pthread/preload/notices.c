@@ -1,7 +1,8 @@
-/* Notices: a thread that is done says so with a lock held, and signals a condition. Another one waits for that with the lock, and then joins the
-   thread with the lock held. If the thread has had the lock for the last time, that join waits for nobody who needs it, however long the thread goes
-   on. What a thread says isn't seen: a notice is told by when the one took the lock and signalled, and the other one waited. So it may have said
-   something else, as that there is something to do, and take the lock once more in another run: the join is a weak acquisition. */
+/* Notices. A thread that is done says so with a lock held, and signals a condition. Another thread waits for that with the lock, and then joins
+   the first one with the lock held. If the first one doesn't take the lock again, the join waits for nobody who needs it, however long the thread
+   lives. The recorder doesn't see what a thread says: it compares when one thread took the lock and signalled with when the other one waited. The
+   signal may have meant something else, as that there is work to do, and in another run the thread may take the lock once more. So such a join is
+   a weak acquisition. */
 #include "held.h"
 
 /* Grows as a thread begins to wait for a condition, and as it comes back. Who signals one only looks at it, so that it needn't wait for others. */
