@@ -81,7 +81,7 @@ __attribute__((noinline)) static int change_mask(masking *real, int how, const s
 #define MASKING(name)                                                                                                  \
     EXPORT int name(int how, const sigset_t *set, sigset_t *old) {                                                     \
         masking *real = REAL(name);                                                                                    \
-        return is_following() ? KEEPING_FRAME(change_mask(real, how, set, old, HERE)) : real(how, set, old);                          \
+        return is_following() ? KEEPING_FRAME(change_mask(real, how, set, old, HERE)) : real(how, set, old);           \
     }
 
 MASKING(pthread_sigmask)

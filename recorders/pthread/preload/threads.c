@@ -840,7 +840,7 @@ static void note_if_own(struct thread *t, uintptr_t lock, uint32_t handed_on) {
             note_new(lock, t->number, handed_on);
 }
 
-/* Whether this thread has initialised the lock with nothing held, and handed nothing on since. Of one that has made more than a few so it isn't known. */
+/* Whether this thread has initialised the lock with nothing held, and handed nothing on since. That isn't known of more than OWN_MADE locks. */
 static bool is_own_made(const struct thread *t, uintptr_t lock) {
     for (uint32_t i = 0; i < t->own_made_count && i < OWN_MADE; i++)
         if (t->own_made[i] == lock)

@@ -1,5 +1,5 @@
 /* A thread that is joined with the lock held with which it has said that it is done, in ways that differ by what it does, and by what the one
-   that joins it has waited for. It goes on for a while before it ends, but for `before` and `earlier`, and `pool`, where the first one ends.
+   that joins it has waited for. It goes on until it is waited for, but for `before`, `earlier`, `many` and `pool`.
      signal    it signals the condition under the lock, and the joiner waits for that
      broadcast, timed, clock, c11    the same by other calls; timed waits give up some times before
      after     it signals when it has released the lock
@@ -124,11 +124,10 @@ static void begin(void) {
         usleep(20000);
 }
 
-#define LIVES_ON 50000 /* microseconds; much longer than a join looks whether the thread ends */
-
+/* Until who joins the thread waits for it, and doesn't look any more whether it ends. (Of several it may end before.) */
 static void live_on(void) {
-    if (!comes_before())
-        usleep(LIVES_ON);
+    if (wanted == 1 && !comes_before())
+        await_asleep();
 }
 
 static void *worker(void *unused) {
