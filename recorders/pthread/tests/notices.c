@@ -1,5 +1,5 @@
 /* A thread that is joined with the lock held with which it has said that it is done, in ways that differ by what it does, and by what the one
-   that joins it has waited for. It goes on until it is waited for, but for `before`, `earlier`, `many` and `pool`.
+   that joins it has waited for. It goes on until it is waited for, but for `before`, `earlier`, `twice`, `many` and `pool`.
      signal    it signals the condition under the lock, and the joiner waits for that
      broadcast, timed, clock, c11    the same by other calls; timed waits give up some times before
      after     it signals when it has released the lock
@@ -124,9 +124,9 @@ static void begin(void) {
         usleep(20000);
 }
 
-/* Until who joins the thread waits for it, and doesn't look any more whether it ends. (Of several it may end before.) */
+/* Until who joins the thread waits for it, and doesn't look any more whether it ends. (One that has to end before doesn't, and of several none does.) */
 static void live_on(void) {
-    if (wanted == 1 && !comes_before())
+    if (wanted == 1 && !comes_before() && !is("twice"))
         await_asleep();
 }
 
