@@ -7,6 +7,7 @@ pub mod Giving
 pub mod Guarding
 pub mod Keys
 pub mod Kept
+pub mod Listing
 pub mod Passing
 pub mod Asking
 mod Lists

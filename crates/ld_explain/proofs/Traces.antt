@@ -43,7 +43,7 @@ module _ (view : View) (x : Fact) where
         record { t = t; is_trace = slice_get-get_or view.traces k t l ∙ ap Some at; fact = y; gives = gives; named = named },
       )
 
-  occurring_has : (o : Origin) → Occurs view x o → Image view.rename (TracesHave view.traces) x
+  pub occurring_has : (o : Origin) → Occurs view x o → Image view.rename (TracesHave view.traces) x
   occurring_has o occurs =
       let l = slice_get_within view.traces o.trace occurs.t occurs.is_trace in (
         occurs.fact,

@@ -6,6 +6,7 @@ pub use Rattle.ld_explain.specs.Inside.Explaining.{Explains, IsGuardOf, IsOfBoth
 pub use Rattle.ld_explain.specs.Inside.Finding.{AddsThose}
 pub use Rattle.ld_explain.specs.Inside.Firsts.{ComesNext, IsKnown, PutsOrigin, SeenBefore, SeenFrom, SeenTo, named_fact, slot_position}
 pub use Rattle.ld_explain.specs.Inside.Guarding.{Among, AreGuards, AsksOrder, IsFirstGuard, IsGateBefore, IsGuardWith, IsKept, Narrows, PutsGuard, gate_in, is_among}
+pub use Rattle.ld_explain.specs.Inside.Listing.{AddsEnd, AsksMore, AsksVerdict}
 pub use Rattle.ld_explain.specs.Inside.Seeing.{AddsSeen, ExplainsSeen, HasBetween, IsCaseAt, IsChoiceFor, IsLoneDouble, IsLoneInversion, IsLoneMember, IsNestedChoice, IsPlan, IsSeenAmong, IsSeenAs, IsUnseenBy, Makes, SaysSeen, SeenHas, level_of, lock_level}
 pub use Rattle.ld_explain.specs.Inside.Sure.{AreSureNumbers, no_key}
 pub use Rattle.ld_explain.specs.Inside.Taking.{AreTakenIn, last_key}
@@ -14,4 +15,5 @@ pub use Rattle.ld_explain.specs.Notes.{AreGuardsOf, HasGuard, IsAloneIn, IsGate}
 pub use Rattle.ld_explain.specs.Origins.{AreOriginsOf, HasOrigin, IsFirst, IsOriginOf, OwnNamesChangeNothing, View, ViewHas, plain}
 pub use Rattle.ld_explain.specs.Settling.{AreLevels, AreTypes, AreVerdictsAt, Borrows, IsSure}
 pub use Rattle.ld_explain.specs.Verdicts.{AreVerdicts, CirclesOfLocksAreSeen, IsSeenAt, IsUnseenAt, count_ranked, counts, has_finding, is_nesting, levels_of, rank}
+pub use Rattle.ld_explain.specs.Whereabouts.{AreEnds, AreOriginsOfEach, AreWhereabouts, kept_at_end, nested_orders, orders_of, origin_in, place_in, places_in}
 pub use Rattle.ld_explain.specs.declared.naming.Naming.{Naming}

@@ -1,5 +1,5 @@
 -- What was found: the findings of facts as lists, in the report's order [this project's own].
-use Rattle.std.specs.Prelude.{[], ◌∷◌, ◌≡◌, ◌⊎◌, List, flat_map, map, ℕ}
+use Rattle.std.specs.Prelude.{[], ◌++◌, ◌∷◌, ◌≡◌, ◌⊎◌, List, flat_map, map, suc, zero, ℕ}
 use Rattle.ld_explain.specs.Names.{Arrow, En, Er, Fact, Hard, Irq, IsDouble, IsInversion, Kind, OnCircle, Sn, Soft, Sr, arrow}
 
 -- the four kinds, in the report's order
@@ -15,6 +15,11 @@ abbrev pub AreThose : {X : Type 0} → (X → Type 0) → List X → List X → 
 AreThose P [] those = those ≡ []
 AreThose P (x ∷ xs) those =
     (P x × ((rest : _) × (those ≡ x ∷ rest) × AreThose P xs rest)) ⊎ (¬ P x × AreThose P xs those)
+
+-- the numbers below n, in order
+unfoldable pub numbers_below : ℕ → List ℕ
+numbers_below zero = []
+numbers_below (suc n) = numbers_below n ++ n ∷ []
 
 -- all that may be dependencies, doubles and inversions between these keys, in the report's order
 abbrev pub arrows_among : List ℕ → List Arrow

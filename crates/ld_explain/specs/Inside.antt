@@ -2,6 +2,7 @@ pub mod Choosing
 pub mod Finding
 pub mod Firsts
 pub mod Guarding
+pub mod Listing
 pub mod Seeing
 pub mod Sure
 pub mod Taking

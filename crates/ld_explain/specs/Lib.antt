@@ -9,3 +9,4 @@ pub mod Notes
 pub mod Origins
 pub mod Settling
 pub mod Verdicts
+pub mod Whereabouts

@@ -29,7 +29,7 @@ pub use Rattle.ld_task.specs.Events.{event, mode_taken}
 pub use Rattle.ld_task.specs.Held.{is_held, key_at}
 pub use Rattle.ld_task.specs.Kinds.{is_r, is_s}
 pub use Rattle.ld_task.specs.Marks.{IsMarkedOpening, IsMarkedTaking}
-pub use Rattle.ld_task.specs.Placed.{IsPlacedAfter, PlacedParts, held_positions}
+pub use Rattle.ld_task.specs.Placed.{IsPlacedAfter, PlacedParts, held_positions, kept_positions}
 pub use Rattle.ld_task.specs.WellFormed.{IsWellFormed}
 pub use Rattle.ld_task.specs.declared.kind.Kind.{Kind}
 pub use Rattle.ld_task.specs.declared.kind.Kind.TheVariants.{En, Er, Sn, Sr}

@@ -2,7 +2,7 @@
 
 ghost use Rattle.std.specs.Prelude.{◌==◌, ◌↔◌, ◌≡◌, IsTrue};
 ghost use Rattle.ld_explain.specs.Names.{arrow, list_all};
-ghost use Rattle.ld_explain.specs.Clauses.{is_nesting};
+ghost use Rattle.ld_explain.specs.Clauses.{is_nesting, orders_of};
 
 use crate::{Dependency, Origin};
 use ld_task::Kind;
@@ -93,6 +93,16 @@ pub enum Finding {
 }
 
 impl Finding {
+    /// The members of its walk in turn; a double has none.
+    pub fn orders(&self) -> &[Order]
+        ensures { result.now ≡ orders_of self.now }
+    {
+        match self {
+            Finding::Circle { walk, .. } | Finding::Inversion { walk, .. } => walk.as_slice(),
+            Finding::Double { .. } => &[],
+        }
+    }
+
     /// Whether it is a circle of which each member leads from a key to itself.
     pub fn is_nesting(&self) -> bool
         ensures { result ≡ is_nesting self.now }

@@ -1,7 +1,7 @@
 //! What was found: the findings of settled facts as lists, in the report's order. Each text but the picture is made of these.
 
 ghost use Rattle.std.specs.Prelude.{[], ◌∷◌, ◌≡◌, IfOk, IsFalse, OnOk, flat_map, map, ℕ};
-ghost use Rattle.ld_explain.specs.Names.{Fact, HasFact, IsDouble, IsInversion, Kind, OnCircle, arrow};
+ghost use Rattle.ld_explain.specs.Names.{Fact, FactBelow, HasFact, IsDouble, IsInversion, Kind, MAX_KEYS, OnCircle, arrow};
 ghost use Rattle.ld_explain.specs.Clauses.{AddsThose, AreFound, arrows_among, doubles_among, inversions_among, kinds};
 
 use crate::Tried;
@@ -33,7 +33,8 @@ impl Model for Dependency {
 
 impl Dependency {
     pub(crate) fn fact(&self) -> Fact
-        ensures { result ≡ Fact.Dependency self.now.start self.now.end self.now.kind }
+        ensures value { result ≡ Fact.Dependency self.now.start self.now.end self.now.kind }
+        ensures below { FactBelow MAX_KEYS result }
     {
         Fact::Dependency {
             from: self.from.get(),

@@ -5,6 +5,7 @@
 mod asked;
 mod asker;
 mod choices;
+mod ends;
 mod evidence;
 mod explainer;
 mod finding;
@@ -19,10 +20,13 @@ mod origins;
 mod plan;
 mod questions;
 mod settling;
+mod sightings;
 mod verdict;
 mod verdicts;
+mod whereabouts;
 
 pub use asked::Asked;
+pub use ends::End;
 pub use evidence::Evidence;
 pub use finding::{Finding, GateNote, Order};
 pub use findings::findings_of;
@@ -34,9 +38,11 @@ pub use levels::Levels;
 pub use naming::Naming;
 pub use origins::{Origin, Origins};
 pub use settling::{SettledLevels, SettledTypes};
+pub use sightings::Sightings;
 use std::alloc::AllocError;
 pub use verdict::{Between, Verdict, count_ranked, has_finding};
 pub use verdicts::verdicts_of;
+pub use whereabouts::Whereabouts;
 
 // What is made, unless memory is refused.
 pub(crate) type Tried<T> = Result<T, AllocError>;

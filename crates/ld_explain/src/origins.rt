@@ -4,9 +4,9 @@ ghost use Rattle.std.specs.Prelude.{[], ◌+◌, ◌<◌, ◌≡◌, ◌≤◌, 
 ghost use Rattle.ld_explain.specs.Names.{Event, IsPlacedAfter, MAX_KEYS};
 ghost use Rattle.ld_task.specs.TraceChains as trace_chains;
 ghost use Rattle.ld_explain.specs.Names.{Fact, FactBelow, FactParts, HasFact, fact_slots};
-ghost use Rattle.ld_explain.specs.Clauses.{AreOriginsOf, HasOrigin, IsKnown, IsOriginOf, PutsOrigin, View, slot_position};
+ghost use Rattle.ld_explain.specs.Clauses.{AreOriginsOf, HasOrigin, IsKnown, IsOriginOf, PutsOrigin, View, origin_in, slot_position};
 
-use crate::Tried;
+use crate::{Dependency, Tried};
 use indexmap::IndexMap;
 use ld_facts::{Fact, lock_of_slot};
 use ld_task::{Chain, PlacedState};
@@ -66,6 +66,17 @@ impl Origins {
     {
         ld_facts::renamed_facts_are_the_image();
         self.origin_of(fact)
+    }
+
+    // The origin of a dependency that is kept.
+    pub(crate) fn origin_in(&self, d: &Dependency) -> Option<Origin>
+        ensures { result ≡ origin_in self.now d.now }
+    {
+        if d.from.get() >= self.keys || d.to.get() >= self.keys {
+            return None;
+        }
+        let number = d.fact().number(self.keys) as u32;
+        self.origins.get(&number).copied()
     }
 
     fn origin_of(&self, fact: Fact) -> Option<Origin>

@@ -2,9 +2,10 @@
 
 ghost use Rattle.std.specs.Prelude.{◌<◌, ◌↔◌, ◌≡◌, ◌≤◌, All, Contains, Err, IfOk, IfSome, IsFalse, IsNone, IsTrue, List, Ok, if◌then◌else◌, length, slice_index};
 ghost use Rattle.ld_explain.specs.Names.{AreSame, Event, GRAPH_KEYS, HasFact, Image, IsClean, IsWellFormed, MAX_KEYS, MAX_TRACES, TooTangled, TracesHave, is_rest, name_at};
-ghost use Rattle.ld_explain.specs.Clauses.{AreLevels, AreSureNumbers, AreTypes, AreVerdictsAt, Borrows, IsSure, no_key};
+ghost use Rattle.ld_explain.specs.Clauses.{AreLevels, AreSureNumbers, AreTypes, AreVerdictsAt, AreWhereabouts, Borrows, IsSure, no_key};
 
-use crate::{Levels, Tried, Verdict, own_names_change_nothing, verdicts_of};
+use crate::whereabouts::whereabouts_of;
+use crate::{Levels, Naming, Tried, Verdict, Whereabouts, own_names_change_nothing, verdicts_of};
 use ld_facts::Facts;
 use ld_parts::{PartedGraph, PartingFault, Settled};
 use ld_trace::{KeyId, KeyTable, Level, RawTrace, Renaming, is_rest};
@@ -191,6 +192,22 @@ impl SettledLevels {
     {
         own_names_change_nothing();
         verdicts_of(alloc, &self.levels(), traces, type_keys, lock_keys)
+    }
+
+    /// In which of the traces, at most 4,096, the dependencies of these verdicts of theirs are, and what the traces hold at their end.
+    /// It fails only if memory is refused.
+    pub fn whereabouts(
+        &self,
+        alloc: Global,
+        traces: &[RawTrace],
+        verdicts: &[Verdict],
+    ) -> Result<Whereabouts, AllocError>
+        requires few { length traces.now ≤ MAX_TRACES }
+        requires well_formed { All IsWellFormed traces.now }
+        ensures { IfOk result (AreWhereabouts traces.now (slice_index self.now.type_of) verdicts.now) }
+    {
+        let types = Naming::Renamed(self.types.type_of());
+        whereabouts_of(alloc, traces, types, verdicts)
     }
 
     /// The names of the types.

@@ -1,9 +1,9 @@
 //! Findings between types, and between what they were seen.
 
 ghost use Rattle.std.specs.Prelude.{◌≡◌, ◌≤◌, length};
-ghost use Rattle.ld_explain.specs.Clauses.{count_ranked, counts, has_finding, rank};
+ghost use Rattle.ld_explain.specs.Clauses.{count_ranked, counts, has_finding, nested_orders, rank};
 
-use crate::finding::Finding;
+use crate::finding::{Finding, Order};
 
 /// Between what a finding between types was seen.
 #[derive(Drop)]
@@ -18,6 +18,18 @@ pub enum Between {
     Classes,
     /// Between types alone.
     Types,
+}
+
+impl Between {
+    /// The members of the walk of the finding between single locks, if there is one.
+    pub fn orders(&self) -> &[Order]
+        ensures { result.now ≡ nested_orders self.now }
+    {
+        match self {
+            Between::Locks(nested) | Between::Perhaps(nested) => nested.orders(),
+            Between::Unknown | Between::Classes | Between::Types => &[],
+        }
+    }
 }
 
 /// A finding between types, and between what it was seen.

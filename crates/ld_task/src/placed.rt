@@ -85,6 +85,13 @@ impl PlacedState {
         self.advance(place, event)
     }
 
+    /// The positions at which the locks that the task keeps were taken, oldest first: those of all its frames.
+    pub fn kept(&self) -> &[u32]
+        ensures { result.now ≡ self.now.places }
+    {
+        self.places.as_slice()
+    }
+
     /// After an event that made a chain: the position at which the chain's held lock number `n`, counted from the
     /// oldest, was taken. The result means nothing if the chain holds no such lock.
     pub fn held_place(&self, n: usize) -> Option<u32>

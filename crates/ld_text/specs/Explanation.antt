@@ -1,22 +1,26 @@
 -- The text of `explain`: what was found, and the records that it comes from [this project's own].
-use Rattle.std.specs.Prelude.{[], ◌++◌, ◌+◌, ◌∷◌, List, None, Option, Some, codes, decimal, flat_map, length, slice_get, suc, unwrap_or, ℕ}
-use Rattle.ld_text.specs.Names.{Acquire, Arrow, Circle, Double, Event, Finding, GateNote, Inversion, Irq, Name, Order, Origin, TurnOn, event, irq_word, name_at}
+use Rattle.std.specs.Prelude.{[], ◌++◌, ◌+◌, ◌∷◌, Bool, List, None, Option, Some, codes, decimal, false, flat_map, length, slice_get, suc, unwrap_or, ℕ}
+use Rattle.ld_text.specs.Names.{Acquire, Arrow, Circle, Double, Event, Finding, GateNote, Inversion, Irq, Name, Order, Origin, OriginParts, TurnOn, event, irq_word, name_at}
 use Rattle.ld_text.specs.ChainLines.{taken_text}
 use Rattle.ld_text.specs.Report.{double_line, inversion_line, member_text, total_line}
 use Rattle.ld_text.specs.Words.{Text, file_at, key_text}
 
 -- what findings are put into words by: the traces, the names of the keys that findings are about and those of the locks in the traces,
--- the files that the traces were read from, and what the lines of a block begin with
+-- the files that the traces were read from, what the lines of a block begin with, whether to say in which traces dependencies are, and
+-- the first occurrences in each trace by itself
 pub record Sources : Type 0 where
   pub traces : List (List Event)
   pub names : List Name
   pub locks : List Name
   pub files : List Text
   pub margin : Text
+  pub lists_traces : Bool
+  pub sightings : List OriginParts
 
 -- where findings are about the locks of the traces
 abbrev pub sources_of : List (List Event) → List Name → List Text → Sources
-sources_of traces names files = record { traces = traces; names = names; locks = names; files = files; margin = codes "  " }
+sources_of traces names files =
+    record { traces = traces; names = names; locks = names; files = files; margin = codes "  "; lists_traces = false; sightings = [] }
 
 -- Where a fact comes from.
 

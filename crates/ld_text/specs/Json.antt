@@ -1,8 +1,9 @@
 -- The findings as JSON: what `explain` says, for programs to read [this project's own; JSON is RFC 8259].
-use Rattle.std.specs.Prelude.{[], ◌++◌, ◌+◌, ◌∷◌, List, None, Option, Some, codes, decimal, drop, flat_map, map, ℕ}
-use Rattle.ld_text.specs.Names.{Acquire, Arrow, Circle, Double, Event, Finding, GateNote, Inversion, Irq, Name, Order, Origin, Token, TurnOn, begin_array, begin_object, end_array, end_object, irq_word, key, mode_word, name_at, number, print, string}
+use Rattle.std.specs.Prelude.{[], ◌++◌, ◌+◌, ◌∷◌, List, None, Option, Some, codes, decimal, drop, flat_map, if◌then◌else◌, length, map, take, ℕ}
+use Rattle.ld_text.specs.Names.{Acquire, Arrow, Circle, Double, Event, Finding, GateNote, Inversion, Irq, Name, Order, Origin, Token, TurnOn, begin_array, begin_object, end_array, end_object, irq_word, key, mode_word, name_at, number, places_in, print, string}
 use Rattle.ld_text.specs.Explanation.{Sources, dependency_text, event_of, gate_note, only_notes}
 use Rattle.ld_text.specs.Words.{file_at, key_text, kind_text}
+use Rattle.ld_text.specs.declared.json_traces.TheConstants.{MOST_TRACES}
 
 -- Members of objects.
 
@@ -52,8 +53,31 @@ abbrev pub dependency_members : List Name → Arrow → List Token
 dependency_members names d = text_member (codes "from") (key_text (name_at names d.start))
     ++ (text_member (codes "kind") (kind_text d.kind) ++ text_member (codes "to") (key_text (name_at names d.end)))
 
+-- the record that took the lock that is held meanwhile
+abbrev pub since_member : Option ℕ → List Token
+since_member None = []
+since_member (Some held) = number_member (codes "since") (held + 2)
+
+-- its first occurrence in a trace
+abbrev pub place_members : Sources → Origin → List Token
+place_members sources origin = text_member (codes "file") (file_at sources.files origin.trace)
+    ++ (number_member (codes "record") (origin.place + 2) ++ since_member origin.held)
+
+abbrev pub place_object : Sources → Origin → List Token
+place_object sources origin = object (place_members sources origin)
+
+-- how many traces have it, and the first of them
+abbrev pub places_members : Sources → List Origin → List Token
+places_members sources places = number_member (codes "count") (length places)
+    ++ list_member (codes "first") (flat_map (place_object sources) (take MOST_TRACES places))
+
+abbrev pub traces_member : Sources → Arrow → List Token
+traces_member sources d =
+    if sources.lists_traces then object_member (codes "traces") (places_members sources (places_in sources.sightings d)) else []
+
 abbrev pub order_object : Sources → Order → List Token
-order_object sources order = object (dependency_members sources.names order.dependency ++ occurrence_members sources order.origin)
+order_object sources order = object (dependency_members sources.names order.dependency
+    ++ (occurrence_members sources order.origin ++ traces_member sources order.dependency))
 
 -- Findings: each with the lines that the report has of it.
 

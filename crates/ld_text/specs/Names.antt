@@ -11,12 +11,14 @@ pub use Rattle.json.specs.Print.{print}
 pub use Rattle.json.specs.Token.{Token, begin_array, begin_object, end_array, end_object, key, number, string}
 pub use Rattle.json.specs.Written.{Written}
 pub use Rattle.ld_explain.specs.Findings.{AreFindings}
-pub use Rattle.ld_explain.specs.Found.{AreFound, FoundParts, kinds, states}
+pub use Rattle.ld_explain.specs.Found.{AreFound, FoundParts, kinds, numbers_below, states}
 pub use Rattle.ld_explain.specs.Laws.Findings.{AreFindings-same}
 pub use Rattle.ld_explain.specs.Laws.Found.{AreFound-same}
-pub use Rattle.ld_explain.specs.Origins.{plain}
+pub use Rattle.ld_explain.specs.Origins.{OriginParts, plain}
 pub use Rattle.ld_explain.specs.Settling.{AreLevels, AreVerdictsAt, LevelParts}
 pub use Rattle.ld_explain.specs.Verdicts.{count_ranked, is_nesting, rank}
+pub use Rattle.ld_explain.specs.Whereabouts.{AreWhereabouts, places_in}
+pub use Rattle.ld_explain.specs.declared.ends.End.{End}
 pub use Rattle.ld_explain.specs.declared.finding.Finding.{Finding}
 pub use Rattle.ld_explain.specs.declared.finding.Finding.TheVariants.{Circle, Double, Inversion}
 pub use Rattle.ld_explain.specs.declared.finding.GateNote.{GateNote}
@@ -25,6 +27,7 @@ pub use Rattle.ld_explain.specs.declared.origins.Origin.{Origin}
 pub use Rattle.ld_explain.specs.declared.verdict.Between.{Between}
 pub use Rattle.ld_explain.specs.declared.verdict.Between.TheVariants.{Classes, Locks, Perhaps, Types, Unknown}
 pub use Rattle.ld_explain.specs.declared.verdict.Verdict.{Verdict}
+pub use Rattle.ld_explain.specs.declared.whereabouts.Whereabouts.{Whereabouts}
 pub use Rattle.ld_facts.specs.Arrows.{Arrow, arrow}
 pub use Rattle.ld_facts.specs.Counting.{IsNumberOf}
 pub use Rattle.ld_facts.specs.FactBits.{HasFact}

@@ -1,13 +1,13 @@
 -- The texts of verdicts: findings between types, each with what it was seen between [this project's own].
-use Rattle.std.specs.Prelude.{[], ◌++◌, ◌-◌, ◌==◌, Bool, List, None, Option, Some, codes, drop, flat_map, if◌then◌else◌, length, ℕ}
-use Rattle.ld_text.specs.Names.{AreLevels, AreVerdictsAt, Arrow, Between, Circle, Classes, Double, Event, Finding, GateNote, Inversion, LevelParts, Locks, Name, Perhaps, Token, Types, Unknown, Verdict, count_ranked, is_nesting, name_at, print, rank}
-use Rattle.ld_text.specs.Explanation.{Sources, deadlock_text, head_text, notes_text, origins_text, walk_text}
+use Rattle.std.specs.Prelude.{[], ◌++◌, ◌+◌, ◌-◌, ◌==◌, Bool, List, None, Option, Some, codes, drop, false, flat_map, if◌then◌else◌, length, true, ℕ}
+use Rattle.ld_text.specs.Names.{Acquire, AreLevels, AreVerdictsAt, Arrow, Between, Circle, Classes, Double, End, Event, Finding, GateNote, Inversion, LevelParts, Locks, Mode, Name, OriginParts, Perhaps, Token, Types, Unknown, Verdict, count_ranked, is_nesting, mode_word, name_at, print, rank}
+use Rattle.ld_text.specs.Explanation.{Sources, deadlock_text, event_of, head_text, notes_text, origins_text, walk_text}
 use Rattle.ld_text.specs.Json.{dependency_members, finding_members, list_member, number_member, object, object_member, text_member}
 use Rattle.ld_text.specs.Order.{IsKeyOrder}
 use Rattle.ld_text.specs.Report.{total_line}
 use Rattle.ld_text.specs.Words.{Text, file_at, key_text}
-use Rattle.ld_text.specs.declared.findings.Format.{Format}
-use Rattle.ld_text.specs.declared.findings.Format.TheVariants as format
+use Rattle.ld_text.specs.declared.verdicts.VerdictFormat.{VerdictFormat}
+use Rattle.ld_text.specs.declared.verdicts.VerdictFormat.TheVariants as format
 
 -- ---- what the texts are of
 -- these are the verdicts of these traces: the findings between the types of their locks, with the types and the locks in the order of
@@ -22,11 +22,13 @@ pub record AreVerdictsOf (traces : List (List Event)) (names : List Name) (verdi
   pub verdicts_are : AreVerdictsAt traces levels keys locks verdicts
 
 -- words for findings between types, whose records take the traces' locks, and for those between single locks, which stand deeper
-abbrev pub type_sources : List (List Event) → (types names : List Name) → List Text → Sources
-type_sources traces types names files = record { traces = traces; names = types; locks = names; files = files; margin = codes "  " }
+abbrev pub type_sources : List (List Event) → (types names : List Name) → List Text → (lists_traces : Bool) → List OriginParts → Sources
+type_sources traces types names files lists sightings =
+    record { traces = traces; names = types; locks = names; files = files; margin = codes "  "; lists_traces = lists; sightings = sightings }
 
-abbrev pub lock_sources : List (List Event) → (names : List Name) → List Text → Sources
-lock_sources traces names files = record { traces = traces; names = names; locks = names; files = files; margin = codes "    " }
+abbrev pub lock_sources : List (List Event) → (names : List Name) → List Text → (lists_traces : Bool) → List OriginParts → Sources
+lock_sources traces names files lists sightings =
+    record { traces = traces; names = names; locks = names; files = files; margin = codes "    "; lists_traces = lists; sightings = sightings }
 
 -- ---- lines for people
 -- what was seen: a walk, or a key
@@ -70,7 +72,7 @@ unfoldable pub verdict_lines : (types locks : Sources) → List Verdict → List
 verdict_lines types locks verdicts =
     total_line (codes "findings") (length verdicts - count_ranked verdicts 5) ++ in_order (verdict_block types locks) verdicts
 
--- ---- JSON, version 2
+-- ---- JSON, version 3
 -- a dependency without its occurrence
 abbrev pub dependency_object : List Name → Arrow → List Token
 dependency_object names d = object (dependency_members names d)
@@ -121,13 +123,39 @@ count_members verdicts = number_member (codes "locks") (count_ranked verdicts 0)
     ++ (number_member (codes "unknown") (count_ranked verdicts 2) ++ (number_member (codes "classes") (count_ranked verdicts 3)
     ++ (number_member (codes "types") (count_ranked verdicts 4) ++ number_member (codes "nested") (count_ranked verdicts 5)))))
 
--- one object with the counts and all verdicts; the first line has no comma before it
-unfoldable pub verdict_json : (types locks : Sources) → List Verdict → List ℕ
-verdict_json types locks verdicts = codes "{\"lockdep\":2,\"counts\":" ++ (print (object (count_members verdicts))
-    ++ (codes ",\"findings\":[" ++ (drop 1 (in_order (verdict_line types locks) verdicts) ++ codes "\n]}\n")))
+-- a lock and how it was taken, if the event takes one
+abbrev pub lock_members : List Name → (lock : ℕ) → Mode → List Token
+lock_members names lock mode = text_member (codes "key") (key_text (name_at names lock)) ++ text_member (codes "mode") (mode_word mode)
+
+abbrev pub taken_members : List Name → Option Event → List Token
+taken_members names (Some (Acquire mode lock)) = lock_members names lock mode
+taken_members names _ = []
+
+-- a lock that is held at the end of a trace
+abbrev pub kept_object : Sources → (trace place : ℕ) → List Token
+kept_object locks trace place = object (taken_members locks.names (event_of locks.traces trace place)
+    ++ number_member (codes "record") (place + 2))
+
+-- what is held at the end of a trace, on a line of its own, after a comma
+abbrev pub end_members : Sources → End → List Token
+end_members locks e = text_member (codes "file") (file_at locks.files e.trace)
+    ++ list_member (codes "holds") (flat_map (kept_object locks e.trace) e.kept.items)
+
+abbrev pub end_line : Sources → End → List ℕ
+end_line locks e = codes ",\n" ++ print (object (end_members locks e))
+
+-- one object with the counts, all verdicts and all ends; the first line of each list has no comma before it
+unfoldable pub verdict_json : (types locks : Sources) → List Verdict → List End → List ℕ
+verdict_json types locks verdicts ends = codes "{\"lockdep\":3,\"counts\":" ++ (print (object (count_members verdicts))
+    ++ (codes ",\"findings\":[" ++ (drop 1 (in_order (verdict_line types locks) verdicts)
+    ++ (codes "\n],\"ends\":[" ++ (drop 1 (flat_map (end_line locks) ends) ++ codes "\n]}\n")))))
 
 -- ---- the text
--- verdicts as lines for people, or as JSON
-abbrev pub verdicts_text : Format → (types locks : Sources) → List Verdict → List ℕ
-verdicts_text format.Lines = verdict_lines
-verdicts_text format.Json = verdict_json
+-- verdicts of traces in these files, whose locks' types have the one names and the locks the other: as lines for people, or as JSON,
+-- which says their whereabouts too
+abbrev pub verdicts_text : VerdictFormat → List (List Event) → (types names : List Name) → List Text → List Verdict → List ℕ
+verdicts_text format.Lines traces types names files verdicts =
+    verdict_lines (type_sources traces types names files false []) (lock_sources traces names files false []) verdicts
+verdicts_text (format.Json w) traces types names files verdicts =
+    verdict_json (type_sources traces types names files true w.now.types) (lock_sources traces names files true w.now.locks)
+    verdicts w.now.ends.items

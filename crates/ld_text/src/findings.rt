@@ -7,7 +7,7 @@ ghost use Rattle.ld_text.specs.Clauses.{SaysFindings, StopsWriting, sources_of};
 use crate::key_texts::KeyTexts;
 use crate::wording::{MARGIN, Wording};
 use crate::{Tried, WriteFault, sorted_keys, write_text};
-use ld_explain::{Naming, findings_of, own_names_change_nothing};
+use ld_explain::{Naming, Sightings, findings_of, own_names_change_nothing};
 use ld_parts::Settled;
 use ld_trace::{KeyTable, RawTrace};
 use std::alloc::Global;
@@ -40,6 +40,7 @@ fn findings_text(
     own_names_change_nothing();
     let findings = findings_of(alloc, settled, traces, Naming::Own, &keys)?;
     let texts = KeyTexts::of(alloc, names)?;
+    let nowhere = Sightings::none(alloc);
     let wording = Wording {
         traces,
         names,
@@ -48,6 +49,8 @@ fn findings_text(
         locks: &texts,
         files,
         margin: MARGIN,
+        lists_traces: false,
+        sightings: &nowhere,
         alloc,
     };
     match format {

@@ -68,6 +68,7 @@ impl Wording<'_> {
         w.begin_object()?;
         self.write_dependency(w, &order.dependency)?;
         self.write_occurrence(w, order.origin)?;
+        self.write_traces(w, &order.dependency)?;
         w.end_object()
     }
 

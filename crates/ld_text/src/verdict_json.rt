@@ -1,4 +1,4 @@
-//! Verdicts as JSON, version 2, for programs to read.
+//! Verdicts as JSON, version 3, for programs to read.
 
 ghost use Rattle.std.specs.Prelude.{◌++◌, ◌≡◌, IfOk, OnOk, codes, drop, flat_map};
 ghost use Rattle.ld_text.specs.Names.{print};
@@ -10,13 +10,15 @@ use crate::verdicts::VerdictWording;
 use crate::wording::Wording;
 use crate::{Tried, file_of};
 use json::Writer;
-use ld_explain::{Between, Dependency, Finding, GateNote, Verdict, count_ranked};
+use ld_explain::{Between, Dependency, End, Finding, GateNote, Verdict, count_ranked};
 use std::alloc::Global;
 
-// What stands before the counts, and between them and the findings, and after these.
-const HEAD: &str = "{\"lockdep\":2,\"counts\":";
+// What stands before the counts, between them and the findings, between these and the ends, and after these.
+const HEAD: &str = "{\"lockdep\":3,\"counts\":";
 
 const FINDINGS: &str = ",\"findings\":[";
+
+const ENDS: &str = "\n],\"ends\":[";
 
 const TAIL: &str = "\n]}\n";
 
@@ -170,7 +172,7 @@ fn write_counts(w: &mut Writer, verdicts: &[Verdict]) -> Tried<()>
 // The text up to the verdicts.
 fn counts_text(alloc: Global, verdicts: &[Verdict]) -> Tried<Vec<u8>>
     ensures { IfOk result (λ text. text.items
-        ≡ codes "{\"lockdep\":2,\"counts\":" ++ (print (object (count_members verdicts.now)) ++ codes ",\"findings\":[")) }
+        ≡ codes "{\"lockdep\":3,\"counts\":" ++ (print (object (count_members verdicts.now)) ++ codes ",\"findings\":[")) }
 {
     let mut text = Vec::new(alloc);
     text.extend_from_slice(HEAD.as_bytes())?;
@@ -250,14 +252,19 @@ impl VerdictWording<'_> {
     }
 
     // The text of verdicts for programs to read.
-    pub(crate) fn json(&self, verdicts: &[Verdict]) -> Tried<Vec<u8>>
-        ensures { IfOk result (λ text. text.items ≡ verdict_json self.now.types.now self.now.locks.now verdicts.now) }
+    pub(crate) fn json(&self, verdicts: &[Verdict], ends: &[End]) -> Tried<Vec<u8>>
+        ensures { IfOk result (λ text. text.items ≡ verdict_json self.now.types.now self.now.locks.now verdicts.now ends.now) }
     {
-        let types = self.types;
-        let mut lines = Vec::new(types.alloc);
+        let locks = self.locks;
+        let alloc = locks.alloc;
+        let mut lines = Vec::new(alloc);
         self.add_objects(&mut lines, verdicts)?;
-        let mut text = counts_text(types.alloc, verdicts)?;
+        let mut held = Vec::new(alloc);
+        locks.add_ends(&mut held, ends)?;
+        let mut text = counts_text(alloc, verdicts)?;
         text.extend_from_slice(without_first(lines.as_slice()))?;
+        text.extend_from_slice(ENDS.as_bytes())?;
+        text.extend_from_slice(without_first(held.as_slice()))?;
         text.extend_from_slice(TAIL.as_bytes())?;
         Ok(text)
     }

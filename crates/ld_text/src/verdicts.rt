@@ -1,13 +1,13 @@
-//! The verdicts of traces, and the text of them in one of two formats.
+//! The verdicts of traces, and the text of them as lines or as JSON.
 
 ghost use Rattle.std.specs.Prelude.{◌≡◌, ◌≤◌, All, IfErr, IfOk, List, OnOk, length, map, ℕ};
 ghost use Rattle.ld_text.specs.Names.{Appends, AreLevels, IsWellFormed, MAX_TRACES};
-ghost use Rattle.ld_text.specs.Clauses.{AreVerdictsOf, StopsWriting, lock_sources, type_sources, verdicts_text};
+ghost use Rattle.ld_text.specs.Clauses.{AreVerdictsOf, StopsWriting, verdicts_text};
 
 use crate::key_texts::KeyTexts;
 use crate::wording::{DEEPER, MARGIN, Wording};
-use crate::{Format, Tried, WriteFault, sorted_keys, write_text};
-use ld_explain::{SettledLevels, Verdict};
+use crate::{Tried, WriteFault, sorted_keys, write_text};
+use ld_explain::{SettledLevels, Sightings, Verdict, Whereabouts};
 use ld_trace::{KeyTable, RawTrace};
 use std::alloc::{AllocError, Global};
 use std::io::Write;
@@ -37,6 +37,15 @@ pub fn verdicts_of_traces(
     levels.verdicts(alloc, traces, names, &keys, &locks)
 }
 
+/// How verdicts are written.
+#[derive(Clone, Copy)]
+pub enum VerdictFormat<'a> {
+    /// As lines, for people to read.
+    Lines,
+    /// As a JSON object, for programs to read, which says their whereabouts too. JSON is RFC 8259.
+    Json(&'a Whereabouts),
+}
+
 fn verdicts_text(
     alloc: Global,
     verdicts: &[Verdict],
@@ -44,14 +53,14 @@ fn verdicts_text(
     types: &KeyTable,
     names: &KeyTable,
     files: &[&str],
-    format: Format,
+    format: VerdictFormat<'_>,
 ) -> Tried<Vec<u8>>
-    ensures { IfOk result (λ text. text.items ≡ verdicts_text format
-        (type_sources traces.now types.now.names names.now.names (map (λ file. file.now) files.entry.now))
-        (lock_sources traces.now names.now.names (map (λ file. file.now) files.entry.now)) verdicts.now) }
+    ensures { IfOk result (λ text. text.items ≡ verdicts_text format.entry traces.now types.now.names names.now.names
+        (map (λ file. file.now) files.entry.now) verdicts.now) }
 {
     let type_texts = KeyTexts::of(alloc, types)?;
     let lock_texts = KeyTexts::of(alloc, names)?;
+    let nowhere = Sightings::none(alloc);
     let between_types = Wording {
         traces,
         names: types,
@@ -60,6 +69,8 @@ fn verdicts_text(
         locks: &lock_texts,
         files,
         margin: MARGIN,
+        lists_traces: false,
+        sightings: &nowhere,
         alloc,
     };
     let between_locks = Wording {
@@ -68,13 +79,31 @@ fn verdicts_text(
         margin: DEEPER,
         ..between_types
     };
-    let wording = VerdictWording {
-        types: &between_types,
-        locks: &between_locks,
-    };
     match format {
-        Format::Lines => wording.lines(verdicts),
-        Format::Json => wording.json(verdicts),
+        VerdictFormat::Lines => {
+            let wording = VerdictWording {
+                types: &between_types,
+                locks: &between_locks,
+            };
+            wording.lines(verdicts)
+        }
+        VerdictFormat::Json(whereabouts) => {
+            let between_types = Wording {
+                lists_traces: true,
+                sightings: &whereabouts.types,
+                ..between_types
+            };
+            let between_locks = Wording {
+                lists_traces: true,
+                sightings: &whereabouts.locks,
+                ..between_locks
+            };
+            let wording = VerdictWording {
+                types: &between_types,
+                locks: &between_locks,
+            };
+            wording.json(verdicts, &whereabouts.ends)
+        }
     }
 }
 
@@ -88,15 +117,12 @@ pub fn write_verdicts<W: Write>(
     types: &KeyTable,
     names: &KeyTable,
     files: &[&str],
-    format: Format,
+    format: VerdictFormat<'_>,
 ) -> Result<(), WriteFault>
-    ensures ok { OnOk result (Appends (W.contents w.old) (W.contents w.new) (verdicts_text format
-        (type_sources traces.now types.now.names names.now.names (map (λ file. file.now) files.entry.now))
-        (lock_sources traces.now names.now.names (map (λ file. file.now) files.entry.now)) verdicts.now)) }
-    ensures err { IfErr result (StopsWriting (λ text. text ≡ verdicts_text format
-        (type_sources traces.now types.now.names names.now.names (map (λ file. file.now) files.entry.now))
-        (lock_sources traces.now names.now.names (map (λ file. file.now) files.entry.now)) verdicts.now)
-        (W.contents w.old) (W.contents w.new)) }
+    ensures ok { OnOk result (Appends (W.contents w.old) (W.contents w.new) (verdicts_text format.entry traces.now types.now.names
+        names.now.names (map (λ file. file.now) files.entry.now) verdicts.now)) }
+    ensures err { IfErr result (StopsWriting (λ text. text ≡ verdicts_text format.entry traces.now types.now.names
+        names.now.names (map (λ file. file.now) files.entry.now) verdicts.now) (W.contents w.old) (W.contents w.new)) }
 {
     match verdicts_text(alloc, verdicts, traces, types, names, files, format) {
         Ok(text) => write_text(w, text.as_slice()),

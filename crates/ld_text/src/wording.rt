@@ -5,6 +5,7 @@ ghost use Rattle.ld_text.specs.Names.{name_at};
 ghost use Rattle.ld_text.specs.Clauses.{event_of, key_text};
 
 use crate::key_texts::KeyTexts;
+use ld_explain::Sightings;
 use ld_trace::{Event, KeyId, KeyTable, RawTrace};
 use std::alloc::Global;
 use std::marker::Model;
@@ -28,6 +29,9 @@ pub(crate) struct Wording<'a> {
     pub locks: &'a KeyTexts,
     pub files: &'a [&'a str],
     pub margin: &'a str,
+    // Whether to say in which traces dependencies are, and where.
+    pub lists_traces: bool,
+    pub sightings: &'a Sightings,
     pub alloc: Global,
 }
 
@@ -44,6 +48,8 @@ impl<'a> Model for Wording<'a> {
       locks = e.lock_names.now.names;
       files = map (λ file. file.now) e.files.now;
       margin = e.margin.now;
+      lists_traces = e.lists_traces;
+      sightings = e.sightings.now;
     } };
 
     ghost invariant = { λ e. (e.keys.now ≡ map key_text e.names.now.names) × (e.locks.now ≡ map key_text e.lock_names.now.names) };

@@ -1,7 +1,7 @@
--- The findings of equal facts.
-use Rattle.std.specs.Prelude.{[], ◌↔◌, ◌∷◌, List, ℕ}
-use Rattle.ld_explain.specs.Names.{AreSame, Fact, IsDouble-same, IsInversion-same, OnCircle-same, inl, inr}
-use Rattle.ld_explain.specs.Found.{AreFound, AreThose, FoundParts, arrows_among, doubles_among, inversions_among}
+-- The findings of equal facts; and one number more.
+use Rattle.std.specs.Prelude.{[], ◌++◌, ◌+◌, ◌↔◌, ◌∷◌, ◌≡◌, List, suc, ℕ}
+use Rattle.ld_explain.specs.Names.{AreSame, Fact, IsDouble-same, IsInversion-same, OnCircle-same, arith, inl, inr, refl, subst, sym}
+use Rattle.ld_explain.specs.Found.{AreFound, AreThose, FoundParts, arrows_among, doubles_among, inversions_among, numbers_below}
 
 -- those that the same is said of
 AreThose-same : {X : Type 0} (P Q : X → Type 0) → ((x : X) → P x ↔ Q x) → (xs those : List X) → AreThose P xs those → AreThose Q xs those
@@ -19,3 +19,12 @@ AreFound-same P Q same keys found are = record {
   doubles = AreThose-same _ _ (λ x. IsDouble-same P Q same x.0 x.1) (doubles_among keys) found.doubles are.doubles;
   inversions = AreThose-same _ _ (λ x. IsInversion-same P Q same x.0 x.1.0 x.1.1) (inversions_among keys) found.inversions are.inversions;
 }
+
+-- ---- numbers
+pub numbers_below-more : (n : ℕ) → numbers_below (n + 1) ≡ numbers_below n ++ n ∷ []
+unfolding numbers_below
+numbers_below-more n = let e : n + 1 ≡ suc n = omega arith in subst (λ m. numbers_below m ≡ numbers_below n ++ n ∷ []) (sym e) refl
+
+pub numbers_below-zero : numbers_below 0 ≡ []
+unfolding numbers_below
+numbers_below-zero = refl

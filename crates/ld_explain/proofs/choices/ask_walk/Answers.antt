@@ -9,5 +9,5 @@ loop-d-preserved c =
       c.add.ensures.keys ∙ c.loop-d.invariant.0,
       subst (λ ds. Adds old new (IsMember ds)) (sym (take-item c.args.walk.now c.loop-d.d-index _ c.d-item.is c.loop-d-test.true))
           (members-more old (HasFact c.loop-d.asked) new (take c.loop-d.d-index c.args.walk.now) c.d-item.result c.loop-d.invariant.1
-          (rw c.fact.ensures at c.add.ensures.adds)),
+          (rw c.fact.ensures.value at c.add.ensures.adds)),
     )

@@ -1,5 +1,5 @@
 use Rattle.ld_text.proofs.Names.{◌<◌, arith}
-use Rattle.ld_text.proofs.OrderLemmas.{numbers_below-zero, numbers_below-more}
+use Rattle.ld_explain.specs.Laws.Found.{numbers_below-more, numbers_below-zero}
 use Rattle.ld_text.proofs.order.numbered_keys.Goals.{in-Some+in_ok-push, in_default}
 use Rattle.ld_text.proofs.order.numbered_keys.Goals as goal
 

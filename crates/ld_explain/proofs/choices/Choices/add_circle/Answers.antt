@@ -8,6 +8,6 @@ add-requires c x part =
 
 pub returns : goal.returns
 returns c = on_ok_weaker c.add.result (λ adds. inr (
-  (λ h. true≢false (sym (c.has.ensures.1 (rw c.fact.ensures h)) ∙ c.if-has.false)),
+  (λ h. true≢false (sym (c.has.ensures.1 (rw c.fact.ensures.value h)) ∙ c.if-has.false)),
   (c.in_ok-circle_choice.field-0, c.in_ok-circle_choice.ensures, adds),
 )) c.add.ensures
