@@ -10,7 +10,7 @@ use Rattle.clap.specs.declared.error.kind.ErrorKind.TheVariants.{DisplayHelp, Di
 use Rattle.ld_words.specs.declared.words.LineFault.{LineFault}
 use Rattle.ld_words.specs.declared.words.LineFault.TheVariants.{Help, Refused, Memory}
 use Rattle.ld_words.specs.declared.words.Line.{Line}
-use Rattle.ld_words.specs.declared.words.Line.TheVariants.{Check, Chains, Condense, Explain, Graph}
+use Rattle.ld_words.specs.declared.words.Line.TheVariants.{Check, Chains, Condense, Explain, Graph, Schedule}
 
 -- `--workers N`: a whole number from 0 to 65,535, 4 if it isn't given
 abbrev pub workers_rule : Rule
@@ -59,6 +59,10 @@ graph_shape = (with_rule (with_rule (many_app (codes "graph")) (flag_rule (codes
 abbrev pub condense_shape : Shape
 condense_shape = (with_rule (many_app (codes "condense")) files_rule).top
 
+-- `schedule [--json] [FILE...]`
+abbrev pub schedule_shape : Shape
+schedule_shape = (with_rule (with_rule (new_app (codes "schedule")) (flag_rule (codes "json"))) files_rule).top
+
 -- `chains [FILE]`
 abbrev pub chains_shape : Shape
 chains_shape = (with_rule (new_app (codes "chains")) file_rule).top
@@ -66,9 +70,9 @@ chains_shape = (with_rule (new_app (codes "chains")) file_rule).top
 -- the program's command lines: one of the subcommands, or the version
 abbrev pub lockdep_app : App
 lockdep_app = let app = new_app (codes "lockdep") in
-    with_subcommand (with_subcommand (with_subcommand (with_subcommand (with_subcommand
+    with_subcommand (with_subcommand (with_subcommand (with_subcommand (with_subcommand (with_subcommand
     (record app { top = record app.top { subcommand_required = true; has_version = true } })
-    check_shape) explain_shape) graph_shape) condense_shape) chains_shape
+    check_shape) explain_shape) graph_shape) condense_shape) schedule_shape) chains_shape
 
 -- the arguments give this number of workers and these files
 pub record ReadsCheck (rows : List Row) (workers : ℕ) (files : List Text) : Type 0 where
@@ -89,6 +93,7 @@ subcommand_word (Check workers many files) = codes "check"
 subcommand_word (Explain workers many json locks confirmed_only files) = codes "explain"
 subcommand_word (Graph workers many findings files) = codes "graph"
 subcommand_word (Condense workers many files) = codes "condense"
+subcommand_word (Schedule json files) = codes "schedule"
 subcommand_word (Chains file) = codes "chains"
 
 -- the arguments of the subcommand say this
@@ -104,7 +109,13 @@ ReadsLine rows (Graph workers many findings files) =
     × ReadsFlag (codes "findings") rows findings
 ReadsLine rows (Condense workers many files) =
     ReadsCheck rows workers (map (λ file. file.now) files.items) × ReadsFlag (codes "many") rows many
+ReadsLine rows (Schedule json files) =
+    ReadsFlag (codes "json") rows json × (map (λ file. file.now) files.items ≡ unwrap_or (all_of (codes "FILE") rows) [])
 ReadsLine rows (Chains file) = option_map (λ word. word.now) file ≡ first_of (codes "FILE") rows
+
+-- it is a line of `schedule`, and the arguments say this
+abbrev pub IsScheduleLine : List Row → Line → Type 0
+IsScheduleLine rows line = (subcommand_word line ≡ codes "schedule") × ReadsLine rows line
 
 -- a subcommand's name and arguments ask for this
 abbrev pub IsLineIn : Option (Text × List Row) → Line → Type 0

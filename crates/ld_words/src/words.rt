@@ -3,7 +3,7 @@
 ghost use Rattle.std.specs.Prelude.{◌≡◌, ◌↔◌, [], false, ℕ, List, IfOk, IfErr, map, unwrap_or, codes};
 ghost use Rattle.clap.specs.Words.{App, HasKind, Shape, all_of, app_of, fault_of as clap_faults, found_of, kind_of, rows_of, rule_of, shape_of, subcommand_rows_of, with_subcommand};
 ghost use Rattle.clap.specs.declared.builder.command.Command.TheViews.{out-Command};
-ghost use Rattle.ld_words.specs.CommandLine.{IsLineFault, IsLineIn, IsLineOf, ReadsCheck, ReadsFlag, chains_shape, check_shape, condense_shape, explain_shape, file_rule, files_rule, flag_rule, graph_shape, lockdep_app, many_app, workers_rule};
+ghost use Rattle.ld_words.specs.CommandLine.{IsLineFault, IsLineIn, IsLineOf, IsScheduleLine, ReadsCheck, ReadsFlag, chains_shape, check_shape, condense_shape, explain_shape, file_rule, files_rule, flag_rule, graph_shape, lockdep_app, many_app, schedule_shape, workers_rule};
 
 use clap::error::ErrorKind;
 use clap::{Arg, ArgAction, ArgMatches, Command, value_parser};
@@ -15,6 +15,9 @@ pub const VERSION: &str = "0.7.0";
 // The last line of the help for what looks for findings, and for what only writes a text.
 const FINDS: &str =
     "Exit status: 0 if nothing was found, 1 if something was, 2 if the run was refused";
+
+const SCHEDULES: &str =
+    "Exit status: 0 if nothing can stand still, 1 if something can, 2 if the run was refused";
 
 const WRITES: &str = "Exit status: 0 if the text was written, 2 if the run was refused";
 
@@ -50,6 +53,12 @@ pub enum Line<'a> {
     Condense {
         workers: u16,
         many: bool,
+        files: Vec<&'a str>,
+    },
+    /// What is said of the histories in these files, or of the one on standard input if no file is named; as JSON if `json`
+    /// is set.
+    Schedule {
+        json: bool,
         files: Vec<&'a str>,
     },
     /// The chains of the trace in this file, or of the one on standard input if no file is named.
@@ -100,6 +109,16 @@ fn files_argument<'a>(alloc: Global) -> Arg<'a>
 {
     Arg::new(alloc, "FILE").num_args(0..).help(
         "A file with a trace; without one, a trace is read from standard input",
+    )
+}
+
+// The files of histories, in their order.
+fn histories_argument<'a>(alloc: Global) -> Arg<'a>
+    ensures rule { rule_of result ≡ files_rule }
+    ensures local { result.global ≡ false }
+{
+    Arg::new(alloc, "FILE").num_args(0..).help(
+        "A file with a history; without one, a history is read from standard input",
     )
 }
 
@@ -198,6 +217,18 @@ fn condense_command<'a>(alloc: Global) -> Result<Command<'a>, AllocError>
     .arg(files_argument(alloc))
 }
 
+// The command lines of the schedules.
+fn schedule_command<'a>(alloc: Global) -> Result<Command<'a>, AllocError>
+    ensures shape { IfOk result (λ command. shape_of command ≡ schedule_shape) }
+    ensures local { IfOk result (λ command. (out-Command command).has_globals ≡ false) }
+{
+    Command::new(alloc, "schedule")
+        .about("Say whether recorded steps can stand still in another order")
+        .after_help(SCHEDULES)
+        .arg(flag(alloc, "json", "Write the rings as JSON"))?
+        .arg(histories_argument(alloc))
+}
+
 // The command lines of the chains.
 fn chains_command<'a>(alloc: Global) -> Result<Command<'a>, AllocError>
     ensures shape { IfOk result (λ command. shape_of command ≡ chains_shape) }
@@ -235,6 +266,7 @@ fn command<'a>(alloc: Global) -> Result<Command<'a>, AllocError>
     let app = with_subcommand(app, explain_command(alloc))?;
     let app = with_subcommand(app, graph_command(alloc))?;
     let app = with_subcommand(app, condense_command(alloc))?;
+    let app = with_subcommand(app, schedule_command(alloc))?;
     with_subcommand(app, chains_command(alloc))
 }
 
@@ -267,6 +299,18 @@ fn many_words<'a>(
     };
     match files_of(alloc, found) {
         Ok(files) => Ok((workers, found.get_flag("many"), files)),
+        Err(_) => Err(LineFault::Memory),
+    }
+}
+
+// What the words of `schedule` ask for.
+fn schedule_line<'a>(alloc: Global, found: &ArgMatches<'a>) -> Result<Line<'a>, LineFault>
+    ensures ok { IfOk result (IsScheduleLine (rows_of (found_of found.now))) }
+    ensures no_help { IfErr result (λ fault. (words : List (List ℕ)) → IsLineFault words fault) }
+{
+    let json = found.get_flag("json");
+    match files_of(alloc, found) {
+        Ok(files) => Ok(Line::Schedule { json, files }),
         Err(_) => Err(LineFault::Memory),
     }
 }
@@ -313,6 +357,9 @@ fn line_of<'a>(alloc: Global, matches: &ArgMatches<'a>) -> Result<Line<'a>, Line
             files,
         });
     }
+    if let Some(found) = matches.subcommand_matches("schedule") {
+        return schedule_line(alloc, found);
+    }
     // There is no other subcommand.
     let Some(found) = matches.subcommand_matches("chains") else {
         return Err(LineFault::Memory);
@@ -337,7 +384,7 @@ fn fault_of(error: clap::Error) -> LineFault
 /// What the command line asks for. The words begin with the program's name, and are read as `clap` defines it: `check
 /// [--workers N] [--many] [FILE...]`, with N a whole number from 0 to 65,535 and 4 if it isn't given, `explain
 /// [--workers N] [--many] [--json] [--locks] [--confirmed-only] [FILE...]`, `graph [--workers N] [--many] [--findings] [FILE...]`, `condense
-/// [--workers N] [--many] [FILE...]` and `chains [FILE]`.
+/// [--workers N] [--many] [FILE...]`, `schedule [--json] [FILE...]` and `chains [FILE]`.
 ///
 /// Refusals: `Help` if help or the version is asked for, `Memory` if memory is refused, and `Refused` for every other
 /// line that isn't accepted [this project's own].

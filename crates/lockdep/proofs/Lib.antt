@@ -3,3 +3,4 @@ pub mod CondensedLemmas
 pub mod FaultLemmas
 pub mod ProgramLemmas
 pub mod TypeLemmas
+pub mod WhereaboutsLemmas

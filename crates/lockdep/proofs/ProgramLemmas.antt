@@ -1,6 +1,6 @@
 -- Which traces a refusal names, and what its line leaves.
 use Rattle.lockdep.proofs.Names.{[], ◌<◌, ◌==◌, ◌∷◌, ◌≡◌, Appends, AppendsBeginning, BadCommandLine, Bor, CannotOpen, Contains, Err, IfErr, IsErr, IsErrAnd, IsReadingRefusal, List, Memory, Name, None, Ok, Option, Output, Reading, Refusal, Result, Some, StopsReading, Text, ap, append-nil, arith, codes, inl, inr, length, map, refl, slice_get, slice_index_or, subst, suc, sym, true, zero, ℕ}
-use Rattle.lockdep.specs.declared.refusal.Refusal.TheVariants.{Step, Run, Condensing}
+use Rattle.lockdep.specs.declared.refusal.Refusal.TheVariants.{Step, History, Run, Condensing}
 
 -- a file of the list is among their names
 pub named_at : (files : List (Bor Text)) (i : ℕ) (d : Bor Text) → i < length files → Contains (map (λ file. file.now) files) (slice_index_or files i d).now
@@ -28,6 +28,7 @@ StopsReading-one file room names bytes Output h = absurd h
 StopsReading-one file room names bytes Memory h = absurd h
 StopsReading-one file room names bytes (Reading named fault) (is, why) = inl (0, omega arith, sym is)
 StopsReading-one file room names bytes (Step named at fault) h = absurd h
+StopsReading-one file room names bytes (History named refusal) h = absurd h
 StopsReading-one file room names bytes (Run fault) h = absurd h
 StopsReading-one file room names bytes (Condensing fault) h = absurd h
 
@@ -45,6 +46,7 @@ StopsReading-among room file files input Memory among h = tt
 StopsReading-among room file files input (Reading named fault) among (inl h) = inl (among_several file named.now files among h)
 StopsReading-among room file files input (Reading named fault) among (inr (none, h)) = absurd (cc)
 StopsReading-among room file files input (Step named at fault) among h = absurd h
+StopsReading-among room file files input (History named refusal) among h = absurd h
 StopsReading-among room file files input (Run fault) among h = absurd h
 StopsReading-among room file files input (Condensing fault) among h = absurd h
 
@@ -56,6 +58,7 @@ StopsReading-input room files input Output none h = absurd h
 StopsReading-input room files input Memory none h = tt
 StopsReading-input room files input (Reading named fault) none h = inr (none, h)
 StopsReading-input room files input (Step named at fault) none h = absurd h
+StopsReading-input room files input (History named refusal) none h = absurd h
 StopsReading-input room files input (Run fault) none h = absurd h
 StopsReading-input room files input (Condensing fault) none h = absurd h
 

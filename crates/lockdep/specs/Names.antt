@@ -3,7 +3,9 @@ pub use Rattle.std.specs.Io.KnownBytes.{Appends, Keeps}
 pub use Rattle.std.specs.Prelude.{[], ◌++◌, ◌+◌, ◌<◌, ◌||◌, ◌↔◌, ◌∷◌, ◌≡◌, ◌≤◌, ◌⊎◌, All, Bool, Contains, Err, IfErr, IfOk, IfSome, IsErrOf, IsOkAnd, IsSomeAnd, IsTrue, List, None, Ok, OnErr, OnOk, Option, Result, Some, codes, decimal, false, if◌then◌else◌, length, map, option_map, slice_get, string_bytes, unwrap_or, ℕ, ⊤}
 pub use Rattle.ld_explain.specs.Settling.{AreLevels, AreTypes, names_at}
 pub use Rattle.ld_explain.specs.Verdicts.{has_finding}
+pub use Rattle.ld_explain.specs.Whereabouts.{AreWhereabouts}
 pub use Rattle.ld_explain.specs.declared.verdict.Verdict.{Verdict}
+pub use Rattle.ld_explain.specs.declared.whereabouts.Whereabouts.{Whereabouts}
 pub use Rattle.ld_facts.specs.FactBits.{HasFact}
 pub use Rattle.ld_facts.specs.Facts.{AreSame}
 pub use Rattle.ld_facts.specs.TraceFacts.{TracesHave}
@@ -23,7 +25,7 @@ pub use Rattle.ld_text.specs.Findings.{SaysFindingsOf}
 pub use Rattle.ld_text.specs.Output.{AppendsBeginning}
 pub use Rattle.ld_text.specs.Picture.{IsPictureOf}
 pub use Rattle.ld_text.specs.Report.{IsReportOf}
-pub use Rattle.ld_text.specs.Verdicts.{AreVerdictsOf, lock_sources, type_sources, verdicts_text}
+pub use Rattle.ld_text.specs.Verdicts.{AreVerdictsOf, lock_sources, type_sources, verdict_json, verdicts_text}
 pub use Rattle.ld_text.specs.Words.{Text, file_at}
 pub use Rattle.ld_text.specs.WriteFaults.{StopsWriting}
 pub use Rattle.ld_text.specs.declared.findings.Format.{Format}
@@ -36,8 +38,9 @@ pub use Rattle.ld_trace.specs.Reading.{ReadsTo, StopsAt}
 pub use Rattle.ld_trace.specs.Writing.{trace_text}
 pub use Rattle.ld_trace.specs.declared.event.Event.{Event}
 pub use Rattle.ld_trace.specs.declared.key_id.TheConstants.{GRAPH_KEYS, MAX_KEYS}
+pub use Rattle.ld_trace.specs.Classes.{numbers_at}
 pub use Rattle.ld_trace.specs.declared.level.Level.TheVariants.{Types}
 pub use Rattle.ld_trace.specs.declared.raw_trace.TheConstants.{MAX_EVENTS, MAX_TRACES}
 pub use Rattle.ld_words.specs.CommandLine.{AreRefused, AskForText, IsLineFault, IsLineOf}
 pub use Rattle.ld_words.specs.declared.words.Line.{Line}
-pub use Rattle.ld_words.specs.declared.words.Line.TheVariants.{Chains, Check, Condense, Explain, Graph}
+pub use Rattle.ld_words.specs.declared.words.Line.TheVariants.{Chains, Check, Condense, Explain, Graph, Schedule}

@@ -1,6 +1,7 @@
 -- What the program does for a command line [this project's own].
-use Rattle.std.specs.Prelude.{[], ◌+◌, ◌<◌, ◌||◌, ◌↔◌, ◌∷◌, ◌≡◌, ◌≤◌, ◌⊎◌, All, Bool, Contains, IfSome, IsTrue, List, None, Option, Some, codes, false, if◌then◌else◌, length, map, option_map, unwrap_or, ℕ, ⊤}
-use Rattle.lockdep.specs.Names.{Appends, AppendsBeginning, AreRefused, AskForText, Chains, Check, Condense, Event, Explain, Format, GRAPH_KEYS, Graph, IsClean, IsCrew, IsFirstFault, IsLineOf, IsWellFormed, Keeps, KeysBelow, Line, MAX_KEYS, MAX_TRACES, Name, ReadsTo, StopsAt, Text, TracesHave, chains_text, file_at}
+use Rattle.std.specs.Prelude.{[], ◌+◌, ◌<◌, ◌||◌, ◌↔◌, ◌∷◌, ◌≡◌, ◌≤◌, ◌⊎◌, All, Bool, Contains, IfSome, IsTrue, List, None, Option, Some, codes, if◌then◌else◌, length, map, option_map, unwrap_or, ℕ, ⊤}
+use Rattle.lockdep.specs.Names.{Appends, AppendsBeginning, AreRefused, AskForText, Chains, Check, Condense, Event, Explain, Format, GRAPH_KEYS, Graph, IsClean, IsCrew, IsFirstFault, IsLineOf, IsWellFormed, Keeps, KeysBelow, Line, MAX_KEYS, MAX_TRACES, Name, ReadsTo, Schedule, StopsAt, Text, TracesHave, chains_text, file_at}
+use Rattle.ld_schedule.specs.NamedHistories.{IsRefusedAs}
 use Rattle.lockdep.specs.Faults.{StopsText}
 use Rattle.lockdep.specs.FaultLines.{fault_line}
 use Rattle.lockdep.specs.Texts.{OutputView, report, explanation, json, picture, condensed, IsTextOf}
@@ -11,7 +12,7 @@ use Rattle.lockdep.specs.declared.fault.ReportFault.TheVariants as failed
 use Rattle.lockdep.specs.Names.{WriteFault}
 use Rattle.ld_text.specs.declared.write_fault.WriteFault.TheVariants as write
 use Rattle.lockdep.specs.declared.refusal.Refusal.{Refusal}
-use Rattle.lockdep.specs.declared.refusal.Refusal.TheVariants.{BadCommandLine, CannotOpen, Output, Memory, Reading, Step, Run, Condensing}
+use Rattle.lockdep.specs.declared.refusal.Refusal.TheVariants.{BadCommandLine, CannotOpen, Output, Memory, Reading, Step, History, Run, Condensing}
 
 -- What is asked for.
 
@@ -31,10 +32,16 @@ pub record VerdictsOf : Type 0 where
   pub workers : ℕ
   pub files : List Text
 
+-- what is said of the histories in these files, or of the one on standard input if there are none
+pub record SchedulesOf : Type 0 where
+  pub as_json : Bool
+  pub files : List Text
+
 -- one of these, or the chains of the trace in this file, or on standard input if there is none
 pub data Asked : Type 0 where
   output_of : OutputOf → Asked
   verdicts_of : VerdictsOf → Asked
+  schedules_of : SchedulesOf → Asked
   chains_of : Option Text → Asked
 
 -- how an explanation is written: as JSON, if that is asked for
@@ -60,6 +67,7 @@ asked_by (Graph workers many findings files) = let named = map (λ file. file.no
     output_of (record { output = picture findings; many = many; workers = workers; files = named })
 asked_by (Condense workers many files) = let named = map (λ file. file.now) files.items in
     output_of (record { output = condensed; many = many; workers = workers; files = named })
+asked_by (Schedule as_json files) = schedules_of (record { as_json = as_json; files = map (λ file. file.now) files.items })
 asked_by (Chains file) = chains_of (option_map (λ word. word.now) file)
 
 -- What is done.
@@ -131,10 +139,20 @@ pub record WritesChains (bytes old new : Option (List ℕ)) (status : ℕ) : Typ
   pub wrote : Appends old new (chains_text names trace)
   pub done : status ≡ 0
 
+-- some text was written whole
+abbrev pub IsTextWritten : (old new : Option (List ℕ)) → Type 0
+IsTextWritten old new = (text : List ℕ) × Appends old new text
+
+-- what is said of the histories was written. What the text says, and that the status is 1 exactly if tasks stand still at a
+-- ring that it tells, isn't said here
+abbrev pub WritesSchedules : SchedulesOf → (input old new : Option (List ℕ)) → ℕ → Type 0
+WritesSchedules asked input old new status = (status ≤ 1) × IsTextWritten old new
+
 -- what was asked for was done
 abbrev pub DoesAsked : Asked → (input old new : Option (List ℕ)) → ℕ → Type 0
 DoesAsked (output_of asked) input = WritesOutput asked input
 DoesAsked (verdicts_of asked) input = DoesVerdicts asked input
+DoesAsked (schedules_of asked) input = WritesSchedules asked input
 DoesAsked (chains_of file) input = WritesChains (known_of file input)
 
 -- what the line asks for was done
@@ -235,20 +253,48 @@ RefusesChains file input old new (CannotOpen named) = (file ≡ Some named.now) 
 RefusesChains file input old new refusal =
     RefusesOpened (unwrap_or file (codes "stdin")) (known_of file input) old new refusal
 
+-- the text that was asked for wasn't written whole
+abbrev pub RefusesHelp : (old new : Option (List ℕ)) → Refusal → Type 0
+RefusesHelp old new refusal =
+    ((refusal ≡ Memory) × Keeps old new) ⊎ ((refusal ≡ Output) × ((text : List ℕ) × AppendsBeginning old new text))
+
+-- the history with these bytes is refused, or memory was
+abbrev pub IsRefusalOfHistory : (file : Text) (bytes : Option (List ℕ)) → Refusal → Type 0
+IsRefusalOfHistory file bytes (History named refusal) = (named.now ≡ file) × IsRefusedAs bytes refusal
+IsRefusalOfHistory file bytes Memory = ⊤
+IsRefusalOfHistory file bytes _ = ⊥
+
+-- a file can't be opened, or its history is refused, or memory was
+abbrev pub IsRefusalOfFiles : Refusal → Type 0
+IsRefusalOfFiles (CannotOpen named) = ⊤
+IsRefusalOfFiles (History named refusal) = ⊤
+IsRefusalOfFiles Memory = ⊤
+IsRefusalOfFiles _ = ⊥
+
+-- the histories weren't all read: a file can't be opened, a history is refused, which is that of standard input if there are
+-- no files, or memory was
+abbrev pub IsHistoryRefusal : List Text → (input : Option (List ℕ)) → Refusal → Type 0
+IsHistoryRefusal files input (CannotOpen named) = 0 < length files
+IsHistoryRefusal files input (History named refusal) =
+    length files ≡ 0 → (named.now ≡ codes "stdin") × IsRefusedAs input refusal
+IsHistoryRefusal files input Memory = ⊤
+IsHistoryRefusal files input _ = ⊥
+
+-- nothing was written, since the histories weren't all read, or the text wasn't written whole
+abbrev pub RefusesSchedules : SchedulesOf → (input old new : Option (List ℕ)) → Refusal → Type 0
+RefusesSchedules asked input old new refusal =
+    (IsHistoryRefusal asked.files input refusal × Keeps old new) ⊎ RefusesHelp old new refusal
+
 -- what was asked for is refused in this way
 abbrev pub RefusesAsked : Asked → (input old new : Option (List ℕ)) → Refusal → Type 0
 RefusesAsked (output_of asked) = RefusesOutput asked
 RefusesAsked (verdicts_of asked) = RefusesVerdicts asked
+RefusesAsked (schedules_of asked) = RefusesSchedules asked
 RefusesAsked (chains_of file) = RefusesChains file
 
 -- what the line asks for is refused in this way
 abbrev pub RefusesLine : Line → (input old new : Option (List ℕ)) → Refusal → Type 0
 RefusesLine line = RefusesAsked (asked_by line)
-
--- the text that was asked for wasn't written whole
-abbrev pub RefusesHelp : (old new : Option (List ℕ)) → Refusal → Type 0
-RefusesHelp old new refusal =
-    ((refusal ≡ Memory) × Keeps old new) ⊎ ((refusal ≡ Output) × ((text : List ℕ) × AppendsBeginning old new text))
 
 -- the words are refused by clap's definition, or memory was, or they ask for a text that wasn't written whole
 abbrev pub RefusesNoLine : List Text → (old new : Option (List ℕ)) → Refusal → Type 0

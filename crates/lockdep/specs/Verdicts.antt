@@ -1,26 +1,38 @@
 -- What `explain --locks` writes: the findings between types, each with what it was seen between [this project's own].
-use Rattle.std.specs.Prelude.{◌≡◌, ◌≤◌, All, Bool, List, Option, length, ℕ}
-use Rattle.lockdep.specs.Names.{Appends, AreVerdictsOf, Event, Format, IsCrew, IsWellFormed, MAX_TRACES, Name, StopsWriting, Text, Types, Verdict, has_finding, lock_sources, names_at, type_sources, verdicts_text}
+use Rattle.std.specs.Prelude.{◌≡◌, ◌≤◌, All, Bool, List, Option, length, slice_index, true, ℕ}
+use Rattle.lockdep.specs.Names.{Appends, AreVerdictsOf, AreWhereabouts, Event, Format, IsCrew, IsWellFormed, MAX_TRACES, Name, StopsWriting, Text, Types, Verdict, Whereabouts, has_finding, lock_sources, names_at, numbers_at, type_sources, verdict_json, verdicts_text}
+use Rattle.ld_text.specs.declared.findings.Format.TheVariants as format
+use Rattle.ld_text.specs.declared.verdicts.VerdictFormat.TheVariants as verdict_format
 use Rattle.lockdep.specs.Faults.{StopsReport}
 use Rattle.lockdep.specs.declared.fault.ReportFault.{ReportFault}
 use Rattle.lockdep.specs.declared.fault.ReportFault.TheVariants.{Condensing, Out, Run, Step}
 
--- the text of verdicts of these traces, whose locks have these names
-abbrev pub text_of_verdicts : Format → List (List Event) → List Name → List Text → List Verdict → List ℕ
-text_of_verdicts format traces names files =
-    verdicts_text format (type_sources traces (names_at Types names) names files) (lock_sources traces names files)
+-- the type of each lock that has one of these names
+abbrev pub type_numbers : List Name → List ℕ
+type_numbers names = numbers_at Types names (names_at Types names)
+
+-- the text says these verdicts of traces, whose locks have these names: as lines, or as JSON with the whereabouts of the verdicts
+abbrev pub IsTextOfVerdicts : Format → List (List Event) → List Name → List Text → List Verdict → List ℕ → Type 0
+IsTextOfVerdicts format.Lines traces names files verdicts text =
+    text ≡ verdicts_text verdict_format.Lines traces (names_at Types names) names files verdicts
+IsTextOfVerdicts format.Json traces names files verdicts text = (w : Whereabouts)
+    × AreWhereabouts traces (slice_index (type_numbers names)) verdicts w
+    × (text ≡ verdict_json (type_sources traces (names_at Types names) names files true w.types) (lock_sources traces names files true w.locks)
+    verdicts w.ends.items)
 
 -- the text says the verdicts of these traces
 abbrev pub SaysVerdicts : Format → List (List Event) → List Name → List Text → List ℕ → Type 0
 SaysVerdicts format traces names files text =
-    (verdicts : List Verdict) × AreVerdictsOf traces names verdicts × (text ≡ text_of_verdicts format traces names files verdicts)
+    (verdicts : List Verdict) × AreVerdictsOf traces names verdicts × IsTextOfVerdicts format traces names files verdicts text
 
 -- the verdicts of the traces were written, and this is whether one of them counts
 pub record WritesVerdicts (format : Format) (confirmed_only : Bool) (files : List Text) (names : List Name) (traces : List (List Event))
     (old new : Option (List ℕ)) (found : Bool) : Type 0 where
   pub verdicts : List Verdict
   pub verdicts_are : AreVerdictsOf traces names verdicts
-  pub wrote : Appends old new (text_of_verdicts format traces names files verdicts)
+  pub text : List ℕ
+  pub text_is : IsTextOfVerdicts format traces names files verdicts text
+  pub wrote : Appends old new text
   pub found_is : found ≡ has_finding confirmed_only verdicts
 
 -- they were refused in this way: before they were known as a report is, or in writing them

@@ -16,6 +16,7 @@ mod output;
 mod program;
 mod refusal;
 mod request;
+mod schedules;
 mod session;
 mod settled;
 mod source;

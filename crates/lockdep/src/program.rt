@@ -9,6 +9,7 @@ use crate::fault::ReportFault;
 use crate::output::Output;
 use crate::refusal::{REFUSED, Refusal, Tells};
 use crate::request::{OutputRequest, Request, VerdictRequest, request_of};
+use crate::schedules::answer_schedules;
 use crate::session::Session;
 use crate::source::Source;
 use crate::trace_files::{Adds, InTurn, add_trace};
@@ -25,20 +26,20 @@ use std::thread::Threads;
 /// The status if the facts are clean, or if the condensed trace, the chains or help was written.
 pub(crate) const DONE: u8 = 0;
 
-/// The status if another output was written of facts that aren't clean.
-const NOT_CLEAN: u8 = 1;
+/// The status if another output was written of facts that aren't clean, or if tasks stand still at a ring of a history.
+pub(crate) const NOT_CLEAN: u8 = 1;
 
 /// The program. The words begin with its name, `input` stands for standard input, `out` for standard output and `err` for
 /// standard error. `lockdep check [--workers N] [--many] [FILE...]` writes the report of the traces in these files, `lockdep
 /// explain [--json]` what was found in them and the records that it comes from, with `--locks` or `--confirmed-only` what
 /// each finding was seen between, `lockdep graph [--findings]` a picture of their facts, `lockdep condense` one trace that
-/// has exactly their facts, and `lockdep chains [FILE]` the chains of a trace. Without a file one trace is read from the
-/// input. Each file is opened and read before the next one is. `lockdep --version` writes the version, and `lockdep help`
+/// has exactly their facts, `lockdep schedule [--json] [FILE...]` whether recorded steps can stand still in another order, and
+/// `lockdep chains [FILE]` the chains of a trace. Without a file one trace or history is read from the input. Each file is opened and read before the next one is. `lockdep --version` writes the version, and `lockdep help`
 /// how the program is called.
 ///
 /// The status is 0 if the facts are clean, if the condensed trace or the chains were written, or if help or the version was
-/// asked for; 1 if a report, an explanation or a picture was written of facts that aren't clean, or verdicts of which one
-/// counts; and 2 if the program refused.
+/// asked for; 1 if a report, an explanation or a picture was written of facts that aren't clean, verdicts of which one
+/// counts, or what is said of histories of which one can stand still; and 2 if the program refused.
 /// Then exactly one line is written to `err`, and otherwise none; if `err` fails, that is ignored. This project's own.
 pub fn program<R: Files + Threads + Wait + Sync, I: Read + Drop, O: Write, E: Write>(
     rt: &R,
@@ -158,6 +159,7 @@ fn answer_line<'a, R: Files + Threads + Wait + Sync, A: Adds, I: Read + Drop, O:
     match request_of(line) {
         Request::Output(request) => answer_output(rt, adds, alloc, request, input, out),
         Request::Verdicts(request) => answer_verdicts(rt, adds, alloc, request, input, out),
+        Request::Schedules(request) => answer_schedules(rt, alloc, request, input, out),
         Request::Chains(file) => answer_chains(rt, alloc, file, input, out),
     }
 }

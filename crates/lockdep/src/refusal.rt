@@ -5,6 +5,7 @@ ghost use Rattle.lockdep.specs.Names.{Appends, AppendsBeginning, WriteFault};
 ghost use Rattle.lockdep.specs.Clauses.{Refusal, fault_line, record_line};
 
 use ld_run::{CondenseFault, RunFault};
+use ld_schedule::HistoryRefusal;
 use ld_task::StepFault;
 use ld_text::{WriteFault, digits_of, write_texts};
 use ld_trace::TraceFault;
@@ -36,6 +37,11 @@ pub(crate) enum Refusal<'a> {
         file: &'a str,
         at: usize,
         fault: StepFault,
+    },
+    /// A history is refused.
+    History {
+        file: &'a str,
+        refusal: HistoryRefusal,
     },
     /// The run over the traces is refused for another reason.
     Run(RunFault),
@@ -95,6 +101,9 @@ fn write_line<W: Write>(w: &mut W, refusal: Refusal<'_>) -> Result<(), WriteFaul
         Refusal::Memory => write_texts(w, &["lockdep: P4 Memory\n"]),
         Refusal::Reading { file, fault } => tell_record(w, file, fault.at, fault.code()),
         Refusal::Step { file, at, fault } => tell_record(w, file, at, fault.code()),
+        Refusal::History { file, refusal } => {
+            tell_record(w, file, refusal.record(), refusal.code())
+        }
         Refusal::Run(fault) => write_texts(w, &["lockdep: ", fault.code(), "\n"]),
         Refusal::Condensing(fault) => write_texts(w, &["lockdep: ", fault.code(), "\n"]),
     }

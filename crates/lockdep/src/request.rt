@@ -1,7 +1,7 @@
 //! What a command line asks for.
 
 ghost use Rattle.std.specs.Prelude.{◌≡◌, map};
-ghost use Rattle.lockdep.specs.Clauses.{asked_by, asked_of, explanation_as, explanation_asked, format_as, output_of, verdicts_of, view_of};
+ghost use Rattle.lockdep.specs.Clauses.{asked_by, asked_of, explanation_as, explanation_asked, format_as, output_of, schedules_of, verdicts_of, view_of};
 
 use crate::output::Output;
 use ld_text::Format;
@@ -27,6 +27,14 @@ pub(crate) struct VerdictRequest<'l, 'a> {
     pub(crate) files: &'l [&'a str],
 }
 
+/// What is said of the histories in these files, or of the one on standard input if there are no files.
+#[derive(Clone, Copy)]
+pub(crate) struct ScheduleRequest<'l, 'a> {
+    /// Whether it is written as JSON.
+    pub(crate) json: bool,
+    pub(crate) files: &'l [&'a str],
+}
+
 /// What a command line asks for.
 #[derive(Clone, Copy)]
 pub(crate) enum Request<'l, 'a> {
@@ -34,6 +42,8 @@ pub(crate) enum Request<'l, 'a> {
     Output(OutputRequest<'l, 'a>),
     /// The findings with what they were seen between.
     Verdicts(VerdictRequest<'l, 'a>),
+    /// What is said of histories.
+    Schedules(ScheduleRequest<'l, 'a>),
     /// The chains of the trace in this file, or of the one on standard input if there is no file.
     Chains(Option<&'a str>),
 }
@@ -75,6 +85,7 @@ pub(crate) fn request_of<'l, 'a>(line: &'l Line<'a>) -> Request<'l, 'a>
             many,
             files,
         } => output_request(Output::Condensed, *many, *workers, files.as_slice()),
+        Line::Schedule { json, files } => schedule_request(*json, files.as_slice()),
         Line::Chains { file } => Request::Chains(*file),
     }
 }
@@ -98,6 +109,15 @@ fn output_request<'l, 'a>(
         workers,
         files,
     })
+}
+
+fn schedule_request<'l, 'a>(json: bool, files: &'l [&'a str]) -> Request<'l, 'a>
+    ensures { asked_of result ≡ schedules_of (record {
+      as_json = json;
+      files = map (λ file. file.now) files.entry.now;
+    }) }
+{
+    Request::Schedules(ScheduleRequest { json, files })
 }
 
 // The request for an explanation, or for verdicts if it is asked what findings were seen between.

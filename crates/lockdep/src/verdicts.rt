@@ -1,16 +1,16 @@
 //! The verdicts of a session's traces: the findings between types of locks, each with what it was seen between.
 
 ghost use Rattle.std.specs.Prelude.{◌<◌, ◌≡◌, ◌≤◌, All, Err, IfErr, IfOk, List, OnOk, Option, length, map, ℕ};
-ghost use Rattle.lockdep.specs.Names.{AreLevels, AreTypes, Format, IsCrew, IsWellFormed, KeysBelow, StopsWriting, Text};
-ghost use Rattle.lockdep.specs.Clauses.{SaysVerdicts, StopsVerdicts, WritesVerdicts, fault_of_parting};
+ghost use Rattle.lockdep.specs.Names.{Appends, AreLevels, AreTypes, IsCrew, IsWellFormed, KeysBelow, StopsWriting, Text};
+ghost use Rattle.lockdep.specs.Clauses.{IsTextOfVerdicts, SaysVerdicts, StopsVerdicts, WritesVerdicts, fault_of_parting};
 
 use crate::fault::ReportFault;
 use crate::request::VerdictRequest;
 use crate::settled::run_fault;
-use ld_explain::{SettledLevels, SettledTypes, has_finding};
+use ld_explain::{SettledLevels, SettledTypes, Verdict, has_finding};
 use ld_parts::PartingFault;
 use ld_run::{MAX_TRACES, RunFault, facts_at, facts_of};
-use ld_text::{WriteFault, verdicts_of_traces, write_verdicts};
+use ld_text::{Format, VerdictFormat, WriteFault, verdicts_of_traces, write_verdicts};
 use ld_trace::{KeyTable, Level, RawTrace};
 use std::alloc::Global;
 use std::io::Write;
@@ -127,16 +127,58 @@ fn write_levels<W: Write>(
     let Ok(verdicts) = verdicts_of_traces(alloc, levels, traces, keys) else {
         return Err(WriteFault::Memory);
     };
-    let types = levels.type_names();
-    write_verdicts(
-        alloc,
-        w,
-        &verdicts,
-        traces,
-        types,
-        keys,
-        request.files,
-        request.format,
-    )?;
+    write_in_format(alloc, levels, &verdicts, traces, keys, request, w)?;
     Ok(has_finding(&verdicts, request.confirmed_only))
+}
+
+// Writes these verdicts of the traces as it is asked for: as lines, or as JSON with their whereabouts.
+fn write_in_format<W: Write>(
+    alloc: Global,
+    levels: &SettledLevels,
+    verdicts: &[Verdict],
+    traces: &[RawTrace],
+    keys: &KeyTable,
+    request: VerdictRequest<'_, '_>,
+    w: &mut W,
+) -> Result<(), WriteFault>
+    requires few { length traces.now ≤ MAX_TRACES }
+    requires well_formed { All IsWellFormed traces.now }
+    requires levels { AreLevels traces.now keys.now.names levels.now }
+    ensures ok { OnOk result ((text : List ℕ) × IsTextOfVerdicts request.entry.format traces.now keys.now.names
+        (map (λ file. file.now) request.entry.files.now) verdicts.now text × Appends (W.contents w.old) (W.contents w.new) text) }
+    ensures err { IfErr result (StopsWriting (IsTextOfVerdicts request.entry.format traces.now keys.now.names
+        (map (λ file. file.now) request.entry.files.now) verdicts.now) (W.contents w.old) (W.contents w.new)) }
+{
+    let types = levels.type_names();
+    match request.format {
+        Format::Lines => {
+            let format = VerdictFormat::Lines;
+            write_verdicts(
+                alloc,
+                w,
+                verdicts,
+                traces,
+                types,
+                keys,
+                request.files,
+                format,
+            )
+        }
+        Format::Json => {
+            let Ok(whereabouts) = levels.whereabouts(alloc, traces, verdicts) else {
+                return Err(WriteFault::Memory);
+            };
+            let format = VerdictFormat::Json(&whereabouts);
+            write_verdicts(
+                alloc,
+                w,
+                verdicts,
+                traces,
+                types,
+                keys,
+                request.files,
+                format,
+            )
+        }
+    }
 }

@@ -67,7 +67,7 @@ static RUNS: [Run<'_>; 15] = [
         (0, 0),
         (
             1,
-            "{\"lockdep\":2,\"counts\":{\"locks\":0,\"perhaps\":0,\"unknown\":0,\"classes\":1,\"types\":0,\"nested\":0},\"findings\":[\n{\"type\":\"circle\",\"keys\":[\"a/0\",\"b/0\"],\"lines\":[\"circle a/0 EN b/0\",\"circle b/0 EN a/0\"],\"orders\":[{\"from\":\"a/0\",\"kind\":\"EN\",\"to\":\"b/0\",\"file\":\"stdin\",\"record\":3,\"takes\":\"w\",\"held\":\"w\",\"since\":2},{\"from\":\"b/0\",\"kind\":\"EN\",\"to\":\"a/0\",\"file\":\"stdin\",\"record\":7,\"takes\":\"w\",\"held\":\"w\",\"since\":6}],\"notes\":[\"only in stdin\"],\"gates\":[],\"only\":\"stdin\",\"between\":{\"kind\":\"classes\"}}\n]}\n",
+            "{\"lockdep\":3,\"counts\":{\"locks\":0,\"perhaps\":0,\"unknown\":0,\"classes\":1,\"types\":0,\"nested\":0},\"findings\":[\n{\"type\":\"circle\",\"keys\":[\"a/0\",\"b/0\"],\"lines\":[\"circle a/0 EN b/0\",\"circle b/0 EN a/0\"],\"orders\":[{\"from\":\"a/0\",\"kind\":\"EN\",\"to\":\"b/0\",\"file\":\"stdin\",\"record\":3,\"takes\":\"w\",\"held\":\"w\",\"since\":2,\"traces\":{\"count\":1,\"first\":[{\"file\":\"stdin\",\"record\":3,\"since\":2}]}},{\"from\":\"b/0\",\"kind\":\"EN\",\"to\":\"a/0\",\"file\":\"stdin\",\"record\":7,\"takes\":\"w\",\"held\":\"w\",\"since\":6,\"traces\":{\"count\":1,\"first\":[{\"file\":\"stdin\",\"record\":7,\"since\":6}]}}],\"notes\":[\"only in stdin\"],\"gates\":[],\"only\":\"stdin\",\"between\":{\"kind\":\"classes\"}}\n],\"ends\":[\n{\"file\":\"stdin\",\"holds\":[{\"key\":\"b#2/0\",\"mode\":\"w\",\"record\":6},{\"key\":\"a#1/0\",\"mode\":\"w\",\"record\":7}]}\n]}\n",
             "",
         ),
     ),

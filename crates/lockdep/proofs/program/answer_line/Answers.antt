@@ -30,3 +30,13 @@ pub returns-in-Verdicts-clause-err : goal.returns-in-Verdicts-clause-err
 returns-in-Verdicts-clause-err g c =
     subst (λ (asked : Asked). IfErr c.answer_verdicts.result (RefusesAsked asked (g.I.Read.remaining c.args.input) (g.O.Write.contents c.args.out.now) (g.O.Write.contents c.answer_verdicts.new.out)))
     c.in-Verdicts.ensures c.answer_verdicts.ensures.err
+
+pub returns-in-Schedules-clause-ok : goal.returns-in-Schedules-clause-ok
+returns-in-Schedules-clause-ok g c =
+    subst (λ (asked : Asked). IfOk c.answer_schedules.result (DoesAsked asked (g.I.Read.remaining c.args.input) (g.O.Write.contents c.args.out.now) (g.O.Write.contents c.answer_schedules.new.out)))
+    c.in-Schedules.ensures c.answer_schedules.ensures.ok
+
+pub returns-in-Schedules-clause-err : goal.returns-in-Schedules-clause-err
+returns-in-Schedules-clause-err g c =
+    subst (λ (asked : Asked). IfErr c.answer_schedules.result (RefusesAsked asked (g.I.Read.remaining c.args.input) (g.O.Write.contents c.args.out.now) (g.O.Write.contents c.answer_schedules.new.out)))
+    c.in-Schedules.ensures c.answer_schedules.ensures.err

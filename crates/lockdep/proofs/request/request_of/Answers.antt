@@ -12,3 +12,7 @@ returns-in-Graph c = subst (λ (line : Line). asked_of c.output_request-in-Graph
 pub returns-in-Condense : goal.returns-in-Condense
 returns-in-Condense c = subst (λ (line : Line). asked_of c.output_request-in-Condense.result ≡ asked_by line)
     (sym c.in-Condense.is) (rw c.as_slice-in-Condense.ensures.value at c.output_request-in-Condense.ensures)
+
+pub returns-in-Schedule : goal.returns-in-Schedule
+returns-in-Schedule c = subst (λ (line : Line). asked_of c.schedule_request.result ≡ asked_by line)
+    (sym c.in-Schedule.is) (rw c.as_slice-in-Schedule.ensures.value at c.schedule_request.ensures)

@@ -1,0 +1,16 @@
+pub mod FieldLemmas
+pub mod TableLemmas
+pub mod ReadingLemmas
+pub mod RefusalLemmas
+pub mod Names
+pub mod Reading
+pub mod MessageSteps
+pub mod TakingSteps
+pub mod NoFault
+pub mod Tables
+pub mod Below
+pub mod Replays
+pub mod Standstills
+pub mod ScheduleLaws
+pub mod Closings
+pub mod RingClosings

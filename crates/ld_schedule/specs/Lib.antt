@@ -1,0 +1,14 @@
+pub mod Inside
+pub mod Histories
+pub mod WellFormed
+pub mod Schedules
+pub mod Decisions
+pub mod Refusals
+pub mod Names
+pub mod Numbers
+pub mod ReadFaults
+pub mod Reading
+pub mod Records
+pub mod HistoryCodes
+pub mod NamedHistories
+pub mod Verdicts
