@@ -11,8 +11,8 @@
 #include <stdint.h>
 #include <string.h>
 
-/* "lockrecd", little endian: its last letter is another one when what follows is laid out in another way. */
-#define RAW_MAGIC UINT64_C(0x646365726b636f6c)
+/* "lockrece", little endian: its last letter is another one when what follows is laid out in another way. */
+#define RAW_MAGIC UINT64_C(0x656365726b636f6c)
 
 /* The file's size, if no limit forbids it, and the size under which a recording may well be too small. */
 #define RAW_BYTES (UINT64_C(4) << 30)
@@ -43,7 +43,7 @@ enum mode { MODE_WRITE, MODE_READ, MODE_REC_READ, MODE_TRY_WRITE, MODE_TRY_READ,
 
 /* Added to the mode of an acquisition: the program says in which order locks of the class are nested, and this one comes after all of them
    that are held. And of one that comes under others: the wait for it gives up at a time; the thread itself made the lock, has held
-   others ever since, and no other thread has come to it; it is a thread that had ended; it is a routine that had run once, for which the thread would
+   others ever since, and no other thread has come to it; it is a thread that had given notice of its end; it is a routine that had run once, for which the thread would
    have waited a little earlier. RAW_UNDER_NEW, of a lock that isn't a thread: all locks that the thread held were new, and this one isn't. */
 #define RAW_IN_ORDER 8
 #define RAW_TIMED 16
@@ -86,6 +86,7 @@ enum raw_kind { RAW_PROCESSES, RAW_PLACES, RAW_MODULES, RAW_CLASSES, RAW_OBJECTS
 struct raw_process {
     uint32_t id; /* the system's number of it; written last */
     uint32_t parent;
+    uint64_t history_end; /* the time from which on steps may be missing in its history; 0: none is */
 };
 
 struct raw_module {
@@ -308,6 +309,64 @@ struct raw_thread {
     struct raw_notice notices[RAW_NOTICES]; /* all 0 if the thread ended with a lock held */
 };
 
+/* ---- The history: what each thread of a process did, step by step, as far as there is room for it.
+
+   A thread writes to chunks of its own. A step is one word, if it takes a lock as it did before, or releases it then, and else two. The first two words of
+   a chunk say whose it is, and the time in full; of other steps the first word has the time's low half alone, so it is the time that is nearest to the
+   one that was written in full last. Times grow along a chunk, but for some ticks: what stands there first happened first. */
+enum raw_verb {
+    STEP_NONE,    /* isn't written yet, or was left by a jump */
+    STEP_CHUNK,   /* a chunk's first step: about is the time, place the thread as in raw_thread.system_thread, and time the process */
+    STEP_TIME,    /* about is the time */
+    STEP_BEGIN,   /* the thread's first step: about is its pthread_t */
+    STEP_END,     /* the thread takes no step any more */
+    STEP_NAME,    /* the lock at that address is the object whose number stands in place of a place; if the mode isn't 0 it may be another lock than before */
+    STEP_TAKE,    /* after it was taken, by a mode with RAW_TIMED */
+    STEP_RELEASE, /* before it is released; in place of a place stands the object's number, if that is known */
+    STEP_RUN,     /* a routine that runs once is about to run */
+    STEP_RAN,     /* it has run, or thrown */
+    STEP_PASS,    /* such a routine was found to have run, by a thread with these locks held for the first time */
+    STEP_START,   /* a thread is about to be started: about is a number of the start */
+    STEP_STARTED, /* it was started: about is its pthread_t, and in place of a place stands the number of the start */
+    STEP_JOIN,    /* about to join the thread of a pthread_t */
+    STEP_JOINED,  /* it has ended; the mode is that of a taking */
+    STEP_SIGNAL,  /* about to signal a condition */
+    STEP_WAIT,    /* about to wait for a condition */
+    STEP_WOKEN,   /* the wait has ended, and not by a limit of time */
+    STEP_COUNT,   /* a semaphore or barrier was initialised: in place of a place stands its number and one more, or 0 if processes share it */
+    STEP_POST,    /* about to post a semaphore */
+    STEP_GOT,     /* a wait for a semaphore was successful */
+    STEP_ARRIVE,  /* about to wait at a barrier */
+    STEP_LEAVE,   /* the wait has ended */
+    STEP_VERBS
+};
+
+/* The first word: the low half of the time, and above it what the step is: RAW_AGAIN or RAW_BACK and where the step is that took the lock so, in words
+   from the beginning of all histories on; or neither, and a place. The second word of such a step: an address, and above it the mode and the verb; of
+   STEP_CHUNK and STEP_TIME the time, and the verb. */
+#define RAW_STEP_WORDS 128 /* of a chunk */
+#define RAW_STEP_CHUNK (RAW_STEP_WORDS * sizeof(uint64_t))
+#define RAW_PLACE_BITS 29
+#define RAW_ADDRESS_BITS 48
+#define RAW_VERB_BITS 56
+#define RAW_EPOCH_BITS 30 /* the time is written in full again before its low half could mean another one */
+#define RAW_HISTORY_SHARE 4 /* so much of the file, at its end, is for the histories of its processes: less than RAW_PLACE_BITS can say */
+
+enum raw_step_form { RAW_LONG, RAW_AGAIN, RAW_BACK };
+
+static inline uint64_t raw_first_word(uint64_t time, enum raw_step_form form, uint32_t place) {
+    return (uint32_t)time | (uint64_t)((uint32_t)form << RAW_PLACE_BITS | (place & ((UINT32_C(1) << RAW_PLACE_BITS) - 1))) << 32;
+}
+static inline enum raw_step_form raw_step_form(uint64_t first) { return (enum raw_step_form)(first >> (32 + RAW_PLACE_BITS)); }
+static inline uint32_t raw_step_place(uint64_t first) { return (uint32_t)(first >> 32) & ((UINT32_C(1) << RAW_PLACE_BITS) - 1); }
+static inline uint64_t raw_second_word(enum raw_verb verb, uint8_t mode, uint64_t about) {
+    return (uint64_t)verb << RAW_VERB_BITS | (uint64_t)mode << RAW_ADDRESS_BITS | about;
+}
+static inline enum raw_verb raw_step_verb(uint64_t second) { return (enum raw_verb)(second >> RAW_VERB_BITS); }
+static inline uint8_t raw_step_mode(uint64_t second) { return (uint8_t)(second >> RAW_ADDRESS_BITS); }
+static inline uint64_t raw_step_about(uint64_t second) { return second & ((UINT64_C(1) << RAW_ADDRESS_BITS) - 1); }
+static inline uint64_t raw_step_time(uint64_t second) { return second & ((UINT64_C(1) << RAW_VERB_BITS) - 1); }
+
 /* The first parts of each kind lie close together at the file's beginning, since the first use of each of its pages is dear. */
 struct raw_region {
     uint64_t from, first_from;
@@ -334,6 +393,8 @@ struct raw_arena {
     uint64_t unfollowed_handlers; /* for which there was no stub left */
     uint64_t unknown_masks;  /* runs that met another mask than was known */
     uint64_t unblocked_by_runs; /* as a mask: signals that handlers unblocked, also if they only put back what was before */
+    uint64_t history_from, history_used, history_to; /* where the chunks of histories are; used goes beyond the end when there is no room any more */
+    uint32_t starts; /* so many starts of threads have numbers */
 };
 
 static inline uint32_t raw_size(enum raw_kind kind) {

@@ -242,7 +242,7 @@ static bool is_to_group(pid_t *witness, int signal_number) {
 
 struct run {
     pid_t command, witness;
-    bool has_ended, is_waiting, is_told, is_over;
+    bool has_ended, is_waiting, has_named_left, is_over;
     int status; /* the command's, once it has ended */
     unsigned signals; /* how many came after the command's end */
     sigset_t ignored; /* what this process was started to ignore, as after nohup */
@@ -342,8 +342,8 @@ static void heed(int signal_number) {
    terminal that hangs up sends SIGHUP to the leader of its session alone. */
 static bool has_it_already(struct run *run, const siginfo_t *info) {
     bool is_to_leader = info->si_signo == SIGHUP && getsid(0) == getpid();
-    bool is_told = is_to_group(&run->witness, info->si_signo) || (info->si_code == SI_KERNEL && !is_to_leader);
-    return is_told && getpgid(run->command) == getpgrp();
+    bool is_for_it = is_to_group(&run->witness, info->si_signo) || (info->si_code == SI_KERNEL && !is_to_leader);
+    return is_for_it && getpgid(run->command) == getpgrp();
 }
 
 /* What this process was started to ignore is passed on too, since the command may have chosen to heed it. But it doesn't end the
@@ -377,7 +377,7 @@ static void step(struct run *run, const sigset_t *awaited) {
     siginfo_t info;
     struct timespec patience = {0, PATIENCE_NANOSECONDS};
     int signal_number;
-    if (run->has_ended && !run->is_told)
+    if (run->has_ended && !run->has_named_left)
         signal_number = sigtimedwait(awaited, &info, &patience);
     else
         signal_number = sigwaitinfo(awaited, &info);
@@ -385,7 +385,7 @@ static void step(struct run *run, const sigset_t *awaited) {
         pass_on(run, &info);
     if (signal_number < 0 && errno == EAGAIN) {
         say_waiting();
-        run->is_told = true;
+        run->has_named_left = true;
     }
     reap(run);
 }

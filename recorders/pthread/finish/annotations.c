@@ -64,9 +64,14 @@ uint64_t ignored_acquisitions(void) {
     return sum;
 }
 
-void tell_reasons(FILE *file) {
-    for (size_t i = 0; i < reason_count; i++)
-        fprintf(file, "  %lu: %s\n", (unsigned long)reasons[i].count, reasons[i].text);
+void write_reasons(FILE *file) {
+    fputs(",\"reasons\":[", file);
+    for (size_t i = 0; i < reason_count; i++) {
+        fprintf(file, "%s[%lu,", i ? "," : "", (unsigned long)reasons[i].count);
+        write_quoted(file, reasons[i].text, SIZE_MAX);
+        putc(']', file);
+    }
+    putc(']', file);
 }
 
 /* ---- Breaches, each once for all programs: of one class in one place. */
@@ -145,27 +150,42 @@ static void tell_breach(FILE *file, const struct breach *b) {
     fputs(", held", file);
 }
 
-static void tell_at(FILE *file, const char *before, const struct place *place) {
+static const struct place *held_place(const struct breach *b) { return place_numbered(b->arena, b->raw->held_place); }
+
+static void write_at(FILE *file, const char *member, const struct place *place) {
     char text[LONGEST_NAME];
     if (!place->count)
         return;
     tell_place(text, sizeof text, place, false);
-    fprintf(file, "%s%s", before, text);
+    fprintf(file, ",\"%s\":", member);
+    write_quoted(file, text, SIZE_MAX);
 }
 
-static const struct place *held_place(const struct breach *b) { return place_numbered(b->arena, b->raw->held_place); }
+static void write_breach_entry(FILE *file, const struct breach *b) {
+    char *text = NULL;
+    size_t length = 0;
+    FILE *words = checked(open_memstream(&text, &length));
+    tell_breach(words, b);
+    fclose(words);
+    fputs("{\"what\":", file);
+    write_quoted(file, text, length);
+    write_at(file, "at", b->place);
+    write_at(file, "since", held_place(b));
+    fprintf(file, ",\"times\":%lu}", (unsigned long)b->count);
+    free(text);
+}
 
-void tell_breaches(FILE *file, enum breach_kind kind) {
+void write_breaches_of(FILE *file, enum breach_kind kind) {
+    const char *before = "";
+    fputs(",\"breaches\":[", file);
     for (size_t i = 0; i < breach_count; i++) {
-        const struct breach *b = &all_breaches[i];
-        if (b->raw->kind != kind)
+        if (all_breaches[i].raw->kind != kind)
             continue;
-        fputs("  ", file);
-        tell_breach(file, b);
-        tell_at(file, ": at ", b->place);
-        tell_at(file, ", held since ", held_place(b));
-        fprintf(file, ", %lu time%s\n", (unsigned long)b->count, b->count == 1 ? "" : "s");
+        fputs(before, file);
+        write_breach_entry(file, &all_breaches[i]);
+        before = ",";
     }
+    putc(']', file);
 }
 
 /* ---- The files that the driver reads: a line for each breach, and its places as those of two records. */

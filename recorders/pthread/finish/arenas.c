@@ -174,7 +174,7 @@ void forget_looks(void) {
 /* ---- Places. */
 
 /* An address with the module's number among all recordings; UINT64_MAX if it is in none. */
-uint64_t told_word(const struct arena *a, uint64_t raw) {
+uint64_t global_word(const struct arena *a, uint64_t raw) {
     uint32_t module = raw_word_module(raw);
     if (module == 0 || module > count_of(a, RAW_MODULES) || a->modules[module] >= RAW_NOWHERE)
         return UINT64_MAX;
@@ -184,7 +184,7 @@ uint64_t told_word(const struct arena *a, uint64_t raw) {
 /* The first of callers that is of the program itself; the first of all if none is. */
 static uint32_t first_of_program(const struct arena *a, const struct raw_place *from, uint32_t last) {
     for (uint32_t i = 0; i < last; i++)
-        if (is_of_program(told_word(a, from->callers[i])))
+        if (is_of_program(global_word(a, from->callers[i])))
             return i;
     return 0;
 }
@@ -208,16 +208,16 @@ static void note_maker(struct place *place, uint64_t word) {
 /* The callers without the frames that start a thread or a program, and without the innermost wrappers. */
 static void read_place(struct arena *a, struct place *to, const struct raw_place *from) {
     uint32_t last = from->count < RAW_FRAMES ? (uint32_t)from->count : RAW_FRAMES, first = 0;
-    while (last > 1 && is_start(told_word(a, from->callers[last - 1])))
+    while (last > 1 && is_start(global_word(a, from->callers[last - 1])))
         last--;
-    while (first + 1 < last && is_passed(to, told_word(a, from->callers[first])))
+    while (first + 1 < last && is_passed(to, global_word(a, from->callers[first])))
         first++;
-    if (first + 1 == last && is_passed(to, told_word(a, from->callers[first])))
+    if (first + 1 == last && is_passed(to, global_word(a, from->callers[first])))
         first = first_of_program(a, from, last);
     for (uint32_t i = 0; i < first; i++)
-        note_maker(to, told_word(a, from->callers[i]));
+        note_maker(to, global_word(a, from->callers[i]));
     for (uint32_t i = first; i < last; i++)
-        to->words[to->count++] = told_word(a, from->callers[i]);
+        to->words[to->count++] = global_word(a, from->callers[i]);
 }
 
 const struct place *place_numbered(struct arena *a, uint32_t number) {

@@ -2,7 +2,7 @@
    an element's locks; those of one object are classes of their own.
 
    A piece is an array if it was asked for as one: by calloc of several, by `new[]`, or by a vector or deque. Else locks of it that one
-   call takes, told by three callers, at distances that are multiples of one of at least a mutex's size are an array in it: what is
+   call takes, known by three callers, at distances that are multiples of one of at least a mutex's size are an array in it: what is
    written out in a program as two locks is taken by two calls. Of what was asked for as one object these are to be three locks at
    least. Else it is an array if locks lie at one distance eight times. */
 #include "finish.h"
@@ -25,7 +25,8 @@ struct site {
 
 /* The locks at `first`, `first + distance` and so on up to `last`. */
 struct part {
-    uint64_t first, last, distance, told;
+    uint64_t first, last, distance;
+    uint64_t member; /* where in an element its locks are, or where it begins if another part has them there too */
 };
 
 static struct taking *offsets, *takings; /* the offsets have no taker */
@@ -203,16 +204,16 @@ static bool is_filled(const struct site *s, const struct part *p) {
     return !s->is_object && s->bytes && s->bytes % p->distance == 0 && s->steps % p->distance == 0;
 }
 
-/* A part is told by where its locks are in an element. If another is told like that, the two are one array of which each is taken by
-   other calls, if it fills the memory; else they are two, and the second one is told by where it begins. */
+/* A part is named by where its locks are in an element. If another has the same name, the two are one array of which each is taken by
+   other calls, if it fills the memory; else they are two, and the second one is named by where it begins. */
 static void tell_parts(const struct site *s, struct part *p, size_t count) {
     if (count)
         qsort(p, count, sizeof *p, by_first);
     for (size_t i = 0; i < count; i++) {
-        p[i].told = p[i].first % p[i].distance;
+        p[i].member = p[i].first % p[i].distance;
         for (size_t k = 0; k < i; k++)
-            if (p[k].told == p[i].told && !(p[k].distance == p[i].distance && is_filled(s, &p[i])))
-                p[i].told = p[i].first;
+            if (p[k].member == p[i].member && !(p[k].distance == p[i].distance && is_filled(s, &p[i])))
+                p[i].member = p[i].first;
     }
 }
 
@@ -349,26 +350,26 @@ void find_arrays(void) {
 
 /* ---- Where in an element a lock is. */
 
-static bool in_part(const struct site *s, uint64_t at, uint64_t *told) {
+static bool in_part(const struct site *s, uint64_t at, uint64_t *member) {
     for (size_t i = s->from; i < s->to; i++)
         if (at >= parts[i].first && at <= parts[i].last && (at - parts[i].first) % parts[i].distance == 0) {
-            *told = parts[i].told;
+            *member = parts[i].member;
             return true;
         }
     for (size_t i = s->from; i < s->to; i++)
         if (at > parts[i].first && at < parts[i].last + parts[i].distance) {
-            *told = at % parts[i].distance;
+            *member = at % parts[i].distance;
             return true;
         }
     return false;
 }
 
 /* Whether the class's locks are an array's, and where in an element they are. */
-bool in_element(struct arena *a, const struct raw_class *class, uint64_t *told) {
+bool in_element(struct arena *a, const struct raw_class *class, uint64_t *member) {
     uint64_t element = element_at(a, class->place);
     const struct site *s = element ? NULL : site_numbered(site_of(place_numbered(a, class->place)));
     element = s ? s->distance : element;
     if (element)
-        *told = s && s->head <= class->offset ? (class->offset - s->head) % element : class->offset % element;
-    return element || (s && in_part(s, class->offset, told));
+        *member = s && s->head <= class->offset ? (class->offset - s->head) % element : class->offset % element;
+    return element || (s && in_part(s, class->offset, member));
 }

@@ -95,7 +95,7 @@ void read_arenas(const char *folder);
 void forget_looks(void); /* takes what was on the programs' stacks out of the recording */
 uint32_t count_of(const struct arena *a, enum raw_kind kind);
 const void *part_of(const struct arena *a, enum raw_kind kind, uint32_t number);
-uint64_t told_word(const struct arena *a, uint64_t raw);
+uint64_t global_word(const struct arena *a, uint64_t raw);
 const struct place *place_numbered(struct arena *a, uint32_t number);
 
 /* A thread's records. */
@@ -106,7 +106,7 @@ uint32_t class_of(const struct arena *a, uint32_t object);
 /* ---- arrays.c */
 
 void find_arrays(void);
-bool in_element(struct arena *a, const struct raw_class *class, uint64_t *told);
+bool in_element(struct arena *a, const struct raw_class *class, uint64_t *member);
 
 /* ---- requests.c */
 
@@ -119,7 +119,7 @@ enum request request_of(struct arena *a, uint32_t place);
 /* ---- sources.c */
 
 void note_source(const char *path);
-const char *told_source(const char *path); /* its last parts, as many as no other one has that was noted */
+const char *short_source(const char *path); /* its last parts, as many as no other one has that was noted */
 
 /* ---- types.c: what `names` found. */
 
@@ -205,10 +205,10 @@ uint32_t object_itself(const struct arena *a, uint32_t object);
 unsigned subclass_of(const struct arena *a, uint32_t object);
 const struct raw_text *text_of(const struct arena *a, const struct raw_class *class);
 uint64_t ignored_acquisitions(void);
-void tell_reasons(FILE *file); /* lines of SUMMARY */
+void write_reasons(FILE *file);
 void find_breaches(void);
 uint64_t breaches(enum breach_kind kind);
-void tell_breaches(FILE *file, enum breach_kind kind); /* lines of SUMMARY */
+void write_breaches_of(FILE *file, enum breach_kind kind);
 void write_breaches(const char *folder);
 
 /* ---- repeats.c */
@@ -219,9 +219,9 @@ struct content { /* of a trace: two traces of the same say the same */
 
 void expect_traces(uint64_t count);
 void add_content(struct content *content, uint64_t what);
-bool is_told_enough(const struct content *content, uint32_t trace); /* this trace isn't needed any more; else it has that number */
+bool is_duplicate(const struct content *content, uint32_t trace); /* of two others, so that it isn't written; else it has that number */
 bool stands_for_others(uint32_t trace);
-void tell_stand_ins(FILE *file); /* lines of SUMMARY: which traces stand for how many others */
+void write_stand_ins(FILE *file); /* which traces stand for how many others */
 
 /* ---- sets.c: what signals' handlers may interrupt. */
 
@@ -232,7 +232,7 @@ uint64_t threads_with_events(void); /* of the system's: a thread and the runs in
 bool is_queued(struct arena *a, uint32_t process, uint32_t object, enum mode mode); /* as a reader of a read-write lock behind a waiting writer */
 bool comes_late(const struct source *source); /* only when its thread has taken its last lock */
 bool may_interrupt(const struct source *source, const struct arena *a, const struct raw_thread *t, uint32_t state);
-void tell_sources(FILE *file); /* lines of SUMMARY */
+void write_sources(FILE *file);
 const char *tell_signal(char *text, size_t room, unsigned number);
 
 /* ---- traces.c */
@@ -243,16 +243,36 @@ struct sums {
 };
 
 extern struct sums sums;
-extern char *waiting_text, *held_text; /* lines of SUMMARY */
 
 void write_traces(const char *folder, int version);
 bool write_in_set(const char *folder, const struct source *source, struct arena *a, const struct raw_thread *raw, uint32_t number, bool is_frame);
 void end_set(void);
-void tell_dropped(FILE *file);
-void write_classes(const char *folder);
-void begin_places(FILE *file);
-void write_place(FILE *file, const struct place *place);
+void write_waiting(FILE *file);
+void write_held_at_end(FILE *file);
+
+/* ---- events.c */
+
+void write_name(FILE *file, const char *name);
+void write_dropped(FILE *file);
+
+/* ---- histories.c */
+
+void write_histories(const char *folder);
+void write_histories_left_out(FILE *file);
+
+/* ---- files.c */
+
 FILE *created(const char *path);
 void closed(FILE *file, const char *path);
+void begin_places(FILE *file);
+void write_place(FILE *file, const struct place *place);
+void write_classes(const char *folder);
+void write_quoted(FILE *file, const char *text, size_t most);
+
+/* ---- summary.c. What stands under a count is written by the file that knows it. */
+
+void begin_entry(FILE *file);
+void write_loss(FILE *file, const char *code, uint64_t count);
+void write_summary(const char *folder);
 
 #endif

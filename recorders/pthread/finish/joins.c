@@ -21,7 +21,7 @@ uint32_t own_object(const struct arena *a, const struct raw_thread *t) {
 /* Where such a thread began: its function, as if that was called from its first byte, or where it was started. */
 const struct place *start_of(struct arena *a, uint32_t object, struct place *room) {
     const struct raw_class *class = part_of(a, RAW_CLASSES, class_of(a, object));
-    *room = (struct place){.count = 1, .words = {told_word(a, class->word) + 1}};
+    *room = (struct place){.count = 1, .words = {global_word(a, class->word) + 1}};
     return class->word ? room : place_numbered(a, class->place);
 }
 

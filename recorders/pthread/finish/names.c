@@ -323,10 +323,10 @@ bool is_in_fork(uint64_t word) {
 static void tell_function(char *text, size_t room, const struct module *m, const struct symbol *s, bool is_call) {
     struct called called;
     read_symbol(&called, s->name);
-    bool is_told = !is_call && s->kind == SYMBOL_CODE && is_overloaded(m, s, &called);
+    bool has_parameters = !is_call && s->kind == SYMBOL_CODE && is_overloaded(m, s, &called);
     cut_to_lambda(called.name);
     size_t have = (size_t)snprintf(text, room, "%s", called.name);
-    if (is_told && have < room)
+    if (has_parameters && have < room)
         snprintf(text + have, room - have, "%s", called.parameters);
 }
 
@@ -373,9 +373,9 @@ static void tell_made(char *text, size_t room, const struct place *place, bool p
 /* What follows the place: where in its memory or frame the lock is. Of an array, where in an element. */
 static void tell_offset(char *text, size_t room, struct arena *a, const struct raw_class *class) {
     text[0] = 0;
-    uint64_t told = 0;
-    if (class->kind == CLASS_HEAP && in_element(a, class, &told))
-        snprintf(text, room, "[].m%lu", (unsigned long)told);
+    uint64_t member = 0;
+    if (class->kind == CLASS_HEAP && in_element(a, class, &member))
+        snprintf(text, room, "[].m%lu", (unsigned long)member);
     else if (class->kind == CLASS_HEAP)
         snprintf(text, room, ".m%lu", (unsigned long)class->offset);
     else if (class->kind == CLASS_STACK)
@@ -417,7 +417,7 @@ void tell_class(char *text, size_t room, struct arena *a, const struct raw_class
     }
     size_t have = (size_t)snprintf(text, room, "%s", class->kind == CLASS_RUN ? THREAD : "");
     if (is_by_word(class))
-        tell_address(text + have, room - have, told_word(a, class->word), false, symbol_kinds[class->kind], plainly);
+        tell_address(text + have, room - have, global_word(a, class->word), false, symbol_kinds[class->kind], plainly);
     else
         tell_made(text + have, room - have, place_numbered(a, class->place), plainly);
     tell_offset(offset, sizeof offset, a, class);
@@ -493,7 +493,7 @@ static uint64_t first_word(struct arena *a, const struct raw_class *class) {
     if (class->kind == CLASS_FILE)
         return class->offset == RAW_WHOLE_FILE ? 0 : class->offset;
     if (is_by_word(class))
-        return told_word(a, class->word);
+        return global_word(a, class->word);
     const struct place *place = callers_of(a, class);
     return place->count ? place->words[0] : UINT64_MAX;
 }

@@ -7,11 +7,11 @@
 #define MAX_TRACES 4096
 #define ALIKE 2
 
-static struct told {
+static struct known {
     struct content content;
     uint32_t times, trace; /* the last one that is written */
     size_t stand_in;       /* where that is in the list, if it stands for others */
-} *tellings;
+} *contents;
 static uint64_t room; /* a power of two; 0 if all traces are written */
 
 /* Traces that stand for others. */
@@ -25,7 +25,7 @@ void expect_traces(uint64_t count) {
         return;
     for (room = 1; room < 2 * count; room *= 2)
         continue;
-    tellings = checked(calloc(room, sizeof *tellings));
+    contents = checked(calloc(room, sizeof *contents));
 }
 
 static uint64_t mixed(uint64_t x) {
@@ -38,34 +38,34 @@ void add_content(struct content *content, uint64_t what) {
     content->sums[1] = mixed(content->sums[1] + 3 * mixed(what + 2));
 }
 
-static struct told *telling_of(const struct content *content) {
+static struct known *entry_of(const struct content *content) {
     uint64_t i = content->sums[0] & (room - 1);
-    while (tellings[i].times && memcmp(&tellings[i].content, content, sizeof *content) != 0)
+    while (contents[i].times && memcmp(&contents[i].content, content, sizeof *content) != 0)
         i = (i + 1) & (room - 1);
-    tellings[i].content = *content;
-    return &tellings[i];
+    contents[i].content = *content;
+    return &contents[i];
 }
 
-static void count_other(struct told *told) {
-    if (told->times == ALIKE) {
-        struct stand_in new = {told->trace, 0};
-        told->stand_in = stand_in_count;
+static void count_other(struct known *known) {
+    if (known->times == ALIKE) {
+        struct stand_in new = {known->trace, 0};
+        known->stand_in = stand_in_count;
         PUSH(stand_ins, stand_in_count, new);
     }
-    stand_ins[told->stand_in].others++;
+    stand_ins[known->stand_in].others++;
 }
 
-bool is_told_enough(const struct content *content, uint32_t trace) {
+bool is_duplicate(const struct content *content, uint32_t trace) {
     if (!room)
         return false;
-    struct told *told = telling_of(content);
-    bool is_enough = told->times >= ALIKE;
-    if (is_enough)
-        count_other(told);
+    struct known *known = entry_of(content);
+    bool is_more = known->times >= ALIKE;
+    if (is_more)
+        count_other(known);
     else
-        told->trace = trace;
-    told->times++;
-    return is_enough;
+        known->trace = trace;
+    known->times++;
+    return is_more;
 }
 
 bool stands_for_others(uint32_t trace) {
@@ -75,7 +75,9 @@ bool stands_for_others(uint32_t trace) {
     return false;
 }
 
-void tell_stand_ins(FILE *file) {
+void write_stand_ins(FILE *file) {
+    fputs(",\"stand_ins\":[", file);
     for (size_t i = 0; i < stand_in_count; i++)
-        fprintf(file, "    task-%04u stands for %u of them\n", stand_ins[i].trace, stand_ins[i].others);
+        fprintf(file, "%s[\"task-%04u\",%u]", i ? "," : "", stand_ins[i].trace, stand_ins[i].others);
+    putc(']', file);
 }

@@ -18,7 +18,7 @@ static bool begins_with_any(const char *text, const char *const *starts) {
 }
 
 /* Functions that only hand on a request say nothing of it. The container next to the allocator does. */
-static enum request told_by_name(const char *name) {
+static enum request request_by_name(const char *name) {
     static const char *const arrays[] = {"std::vector<", "std::_Vector_base<", "std::deque<", "std::_Deque_base<", "std::valarray<",
                                          "operator new[]", "operator_new[]", "std::__1::vector<", "std::__1::deque<", NULL};
     static const char *const handing_on[] = {"operator new", "operator_new", "std::__new_allocator<", "__gnu_cxx::new_allocator<",
@@ -30,12 +30,12 @@ static enum request told_by_name(const char *name) {
     return is_library && !begins_with_any(name, handing_on) ? ASKED_OBJECT : ASKED_UNKNOWN;
 }
 
-static enum request told_by_symbol(uint64_t word) {
+static enum request request_by_symbol(uint64_t word) {
     const struct symbol *s = word == UINT64_MAX ? NULL : symbol_at(raw_word_module(word), raw_word_offset(word) - 1, SYMBOL_CODE);
     char name[LONGEST_NAME] = "";
     if (s)
         tell_symbol(name, sizeof name, s->name);
-    return told_by_name(name);
+    return request_by_name(name);
 }
 
 /* ---- By inlined functions. */
@@ -44,7 +44,7 @@ static enum request told_by_symbol(uint64_t word) {
 static struct {
     uint64_t word;
     enum request request;
-    bool is_told;
+    bool is_answered;
 } asked[MOST_ASKED];
 static size_t asked_count;
 
@@ -77,7 +77,7 @@ static void read_functions(FILE *from, uint32_t module) {
             line[strcspn(line, "\n")] = 0;
             tell_symbol(name, sizeof name, line);
         } else if (i < asked_count && asked[i].request == ASKED_UNKNOWN && !begins_with(line, "??")) {
-            asked[i].request = told_by_name(name);
+            asked[i].request = request_by_name(name);
         }
     }
 }
@@ -87,7 +87,7 @@ static void run_reader(int to, uint32_t module) {
     const char *arguments[MOST_ASKED + 8] = {"addr2line", "-a", "-f", "-i", "-e", modules[module].path};
     size_t count = 6;
     for (size_t i = 0; i < asked_count; i++)
-        if (raw_word_module(asked[i].word) == module && !asked[i].is_told) {
+        if (raw_word_module(asked[i].word) == module && !asked[i].is_answered) {
             snprintf(addresses[i], sizeof addresses[i], "0x%lx", (unsigned long)raw_word_offset(asked[i].word) - 1);
             arguments[count++] = addresses[i];
         }
@@ -119,21 +119,21 @@ static void ask_module(uint32_t module) {
 /* Asks about all places at once, each module's together. */
 void ask_all(void) {
     for (size_t i = 0; i < asked_count; i++)
-        if (!asked[i].is_told) {
+        if (!asked[i].is_answered) {
             uint32_t module = raw_word_module(asked[i].word);
             ask_module(module);
             for (size_t k = i; k < asked_count; k++)
-                asked[k].is_told |= raw_word_module(asked[k].word) == module;
+                asked[k].is_answered |= raw_word_module(asked[k].word) == module;
         }
 }
 
 /* ---- Both. */
 
-static enum request told_by_inlined(uint64_t word) {
+static enum request request_by_inlined(uint64_t word) {
     size_t i = 0;
     while (i < asked_count && asked[i].word != word)
         i++;
-    return i < asked_count && asked[i].request != ASKED_UNKNOWN ? asked[i].request : told_by_symbol(word);
+    return i < asked_count && asked[i].request != ASKED_UNKNOWN ? asked[i].request : request_by_symbol(word);
 }
 
 /* The frames that were passed over to name the place, and the caller. */
@@ -144,10 +144,10 @@ enum request request_of(struct arena *a, uint32_t number) {
         return ASKED_UNKNOWN;
     enum request request = raw->element == RAW_ARRAY ? ASKED_ARRAY : ASKED_UNKNOWN;
     for (uint32_t i = 0; i < raw->count && i < RAW_FRAMES && request == ASKED_UNKNOWN; i++) {
-        uint64_t word = told_word(a, raw->callers[i]);
+        uint64_t word = global_word(a, raw->callers[i]);
         if (word == place->words[0])
-            return told_by_inlined(word);
-        request = told_by_symbol(word);
+            return request_by_inlined(word);
+        request = request_by_symbol(word);
     }
     return request;
 }

@@ -121,7 +121,7 @@ static void read_sources(struct arena *a) {
         const struct raw_source *raw = part_of(a, RAW_SOURCES, n);
         if (!raw->signal)
             continue;
-        a->sources[n] = source_like(raw->signal, told_word(a, raw->handler));
+        a->sources[n] = source_like(raw->signal, global_word(a, raw->handler));
         a->sources[n]->continued += raw->continued;
         a->sources[n]->is_of_locking |= is_locking;
         a->sources[n]->has_others |= has_others || (a->raw->unblocked_by_runs >> (raw->signal - 1) & 1);
@@ -396,31 +396,17 @@ static void write_set(const char *folder, struct source *source) {
 
 /* ---- The lists: of the sources that have a set, and of the handlers that never ran. */
 
-static void write_text(FILE *file, const char *text) {
-    putc('"', file);
-    for (; *text; text++) {
-        unsigned char c = (unsigned char)*text;
-        if (c == '"' || c == '\\')
-            fprintf(file, "\\%c", c);
-        else if (c < ' ')
-            fprintf(file, "\\u%04x", c);
-        else
-            putc(c, file);
-    }
-    putc('"', file);
-}
-
 static void write_about(FILE *file, const struct source *s) {
     char text[32];
     const char *name = name_of(s);
     fprintf(file, "\"signal\": \"%s\", \"handler\": ", tell_signal(text, sizeof text, s->signal));
     if (name)
-        write_text(file, name);
+        write_quoted(file, name, SIZE_MAX);
     else
         fputs("null", file);
     fputs(", \"module\": ", file);
     if (is_somewhere(s))
-        write_text(file, modules[raw_word_module(s->handler)].path);
+        write_quoted(file, modules[raw_word_module(s->handler)].path, SIZE_MAX);
     else
         fputs("null", file);
     fprintf(file, ", \"offset\": \"0x%lx\", \"file\": null, \"line\": null", is_somewhere(s) ? (unsigned long)raw_word_offset(s->handler) : 0);
@@ -436,7 +422,7 @@ static void write_locks(FILE *file, const char *what, const struct locks *locks,
             continue;
         tell_object(object, sizeof object, locks->keys[i]);
         fputs(before, file);
-        write_text(file, object);
+        write_quoted(file, object, SIZE_MAX);
         before = ", ";
     }
     putc(']', file);
@@ -502,16 +488,18 @@ void write_sets(const char *folder) {
     write_list(path, "never.json", never_ran, write_never);
 }
 
-void tell_sources(FILE *file) {
+void write_sources(FILE *file) {
     char text[32];
     for (size_t i = 0; i < source_count; i++) {
         const struct source *s = sources[i];
         const char *name = name_of(s);
-        if (s->runs)
-            fprintf(file, "signal %s %s runs %lu takes %lu sent-to %s\n", tell_signal(text, sizeof text, s->signal), name ? name : "-",
-                    (unsigned long)s->runs, (unsigned long)s->taken.count, s->is_sent_to_process ? "process" : "threads");
+        if (!s->runs)
+            continue;
+        begin_entry(file);
+        fprintf(file, "{\"signal\":\"%s\",\"handler\":", tell_signal(text, sizeof text, s->signal));
+        write_quoted(file, name ? name : "-", SIZE_MAX);
+        fprintf(file, ",\"runs\":%lu,\"takes\":%lu,\"sent_to\":\"%s\"}", (unsigned long)s->runs, (unsigned long)s->taken.count,
+                s->is_sent_to_process ? "process" : "threads");
     }
-    if (sets_beyond)
-        fprintf(file, "handlers-beyond-sets %u\n  handlers that took locks, beyond the first %d: what they interrupt wasn't looked at\n", sets_beyond,
-                MOST_SETS);
+    write_loss(file, "handlers-beyond-sets", sets_beyond);
 }

@@ -60,12 +60,12 @@ static const char *end_apart(const char *path, const char *other) {
     return a;
 }
 
-const char *told_source(const char *path) {
-    const char *base = base_of(path), *told = base;
+const char *short_source(const char *path) {
+    const char *base = base_of(path), *shortest = base;
     sort_sources();
     for (size_t i = first_of_base(base); i < source_count && strcmp(sources[i].base, base) == 0; i++) {
         const char *end = strcmp(sources[i].path, path) == 0 ? base : end_apart(path, sources[i].path);
-        told = end < told ? end : told;
+        shortest = end < shortest ? end : shortest;
     }
-    return told;
+    return shortest;
 }

@@ -162,9 +162,9 @@ static void read_source(const struct reading *r, char *line) {
 
 /* The type with as much of its file's path as tells that from others. */
 static void tell_type(char *full, size_t room, const struct named *named) {
-    const char *told = named->path && *named->path ? told_source(named->path) : "", *slash = strrchr(told, '/');
-    int folders = slash ? (int)(slash + 1 - told) : 0;
-    snprintf(full, room, "%.*s%s", folders, told, named->text);
+    const char *source = named->path && *named->path ? short_source(named->path) : "", *slash = strrchr(source, '/');
+    int folders = slash ? (int)(slash + 1 - source) : 0;
+    snprintf(full, room, "%.*s%s", folders, source, named->text);
     tidy(full);
 }
 

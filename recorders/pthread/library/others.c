@@ -9,7 +9,7 @@
 
 void __vsyslog_chk(int priority, int flag, const char *format, va_list list); /* (not in the header) */
 
-#define REALS(X)                                                                                                       \
+#define REALS(X)                                                                                                                                 \
     X(vsyslog) X(__vsyslog_chk) X(openlog) X(closelog) X(localtime) X(localtime_r) X(gmtime) X(gmtime_r) X(mktime) X(timegm) X(ctime) X(ctime_r) \
     X(strftime) X(tzset) X(random) X(srandom) X(rand) X(srand) X(setenv) X(unsetenv) X(putenv) X(clearenv)
 FIND_AT_START(REALS)
@@ -39,15 +39,15 @@ WITH(syslog, void, openlog, (const char *name, int how, int from), (name, how, f
 WITH(syslog, void, closelog, (void), ())
 
 WITH(timezone, struct tm *, localtime, (const time_t *time), (time))
-WITH(timezone, struct tm *, localtime_r, (const time_t *restrict time, struct tm *restrict told), (time, told))
+WITH(timezone, struct tm *, localtime_r, (const time_t *restrict time, struct tm *restrict broken_down), (time, broken_down))
 WITH(timezone, struct tm *, gmtime, (const time_t *time), (time))
-WITH(timezone, struct tm *, gmtime_r, (const time_t *restrict time, struct tm *restrict told), (time, told))
-WITH(timezone, time_t, mktime, (struct tm * told), (told))
-WITH(timezone, time_t, timegm, (struct tm * told), (told))
+WITH(timezone, struct tm *, gmtime_r, (const time_t *restrict time, struct tm *restrict broken_down), (time, broken_down))
+WITH(timezone, time_t, mktime, (struct tm * broken_down), (broken_down))
+WITH(timezone, time_t, timegm, (struct tm * broken_down), (broken_down))
 WITH(timezone, char *, ctime, (const time_t *time), (time))
 WITH(timezone, char *, ctime_r, (const time_t *restrict time, char *restrict text), (time, text))
-WITH(timezone, size_t, strftime, (char *restrict text, size_t room, const char *restrict format, const struct tm *restrict told),
-     (text, room, format, told))
+WITH(timezone, size_t, strftime, (char *restrict text, size_t room, const char *restrict format, const struct tm *restrict broken_down),
+     (text, room, format, broken_down))
 WITH(timezone, void, tzset, (void), ())
 
 WITH(random, long, random, (void), ())

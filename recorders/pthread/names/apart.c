@@ -142,7 +142,7 @@ static bool is_one_of_overloaded(struct module *m, const char *name) {
     return false;
 }
 
-static const char *told_nameless(Dwarf_Die *function) {
+static const char *distinct_nameless(Dwarf_Die *function) {
     struct module *m = module_of_die(function);
     const char *name = name_of_nameless(function), *parameters = name[0] == '{' ? "" : parameters_of_nameless(function);
     bool is_one = parameters[0] && (is_one_of_overloaded(m, name) || has_overload_in_symbols(m, name, parameters));
@@ -165,9 +165,9 @@ static bool is_in_several_files(Dwarf_Die *function) {
     return false;
 }
 
-const char *told_function(Dwarf_Die *function) {
+const char *distinct_function(Dwarf_Die *function) {
     Dwarf_Die declared = declaration_of(*function);
-    return written("%s%s", is_in_several_files(&declared) ? source_mark(&declared) : "", told(&declared));
+    return written("%s%s", is_in_several_files(&declared) ? source_mark(&declared) : "", distinct_name(&declared));
 }
 
 /* ---- What a function has several of: variables of one name and type in its blocks, and classes without a name. */
@@ -213,7 +213,7 @@ static const char *with_number(const char *name, Dwarf_Die *die, Dwarf_Die *scop
     return name[0] == '{' ? written("%.*s_%u}", (int)length - 1, name, before + 1) : written("%s{%u}", name, before + 1);
 }
 
-const char *told_variable(Dwarf_Die *variable) {
+const char *distinct_variable(Dwarf_Die *variable) {
     Dwarf_Die declared = declaration_of(*variable), scope;
     const char *name = name_of(variable);
     return name && named_scope(declared, &scope) ? with_number(name, &declared, &scope) : name;
@@ -231,7 +231,7 @@ static const char *arguments_of(Dwarf_Die *variable, const char *name) {
     return from ? written("%s", from + strlen(name)) : written("{%s}", symbol);
 }
 
-static const char *own_told(Dwarf_Die *declared, Dwarf_Die *scope) {
+static const char *own_distinct_name(Dwarf_Die *declared, Dwarf_Die *scope) {
     const char *name = own_name(declared);
     int tag = dwarf_tag(declared);
     bool is_nameless = is_class(tag) && name[0] == '{';
@@ -242,11 +242,11 @@ static const char *own_told(Dwarf_Die *declared, Dwarf_Die *scope) {
     return scope && (tag == DW_TAG_variable || is_nameless) ? with_number(name, declared, scope) : name;
 }
 
-const char *told(Dwarf_Die *die) {
+const char *distinct_name(Dwarf_Die *die) {
     Dwarf_Die declared = declaration_of(*die), scope;
     if (dwarf_tag(&declared) == DW_TAG_subprogram && !name_of(&declared))
-        return told_nameless(&declared);
+        return distinct_nameless(&declared);
     if (!named_scope(declared, &scope))
-        return own_told(&declared, NULL);
-    return written("%s::%s", told(&scope), own_told(&declared, &scope));
+        return own_distinct_name(&declared, NULL);
+    return written("%s::%s", distinct_name(&scope), own_distinct_name(&declared, &scope));
 }

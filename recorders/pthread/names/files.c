@@ -71,10 +71,10 @@ void read_sources(struct module *m) {
         return;
     m->has_sources = true;
     while (dwarf_get_units(m->debug, cu, &cu, &version, &kind, &unit, &part) == 0) {
-        Dwarf_Die *told = whole_unit(&unit, kind, &part);
-        const char *name = name_of(told);
+        Dwarf_Die *whole = whole_unit(&unit, kind, &part);
+        const char *name = name_of(whole);
         if (name)
-            PUSH(m->sources, m->source_count, absolute_path(dwarf_hasattr(told, DW_AT_comp_dir) ? told : &unit, name));
+            PUSH(m->sources, m->source_count, absolute_path(dwarf_hasattr(whole, DW_AT_comp_dir) ? whole : &unit, name));
     }
 }
 

@@ -97,7 +97,7 @@ static struct holder holder_of(Dwarf_Die *type, Dwarf_Die *member, struct holder
     if (!class_name(type) || is_of_library(name) || is_lock_class(*type) || strncmp(class_name(type), "<lambda", 7) == 0 ||
         dwarf_tag(member) != DW_TAG_member || !name_of(member))
         return outer;
-    return (struct holder){written("%s%s::%s", file_mark(type, name), without_anonymous(told(type)), name_of(member)), false};
+    return (struct holder){written("%s%s::%s", file_mark(type, name), without_anonymous(distinct_name(type)), name_of(member)), false};
 }
 
 static void search_class(Dwarf_Die type, uint64_t offset, const struct search *s, struct holder holder, int depth) {

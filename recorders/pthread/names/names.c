@@ -197,10 +197,10 @@ static void limit_process(void) {
 }
 
 /* Of the arenas from one on. A pipe, or nobody, has the number of the one that is read, so that one that ends the reader is passed over. */
-static void read_from(char **arenas, size_t count, size_t from, int told) {
+static void read_from(char **arenas, size_t count, size_t from, int pipe_end) {
     limit_process();
     for (size_t i = from; i < count; i++) {
-        if (told != NOBODY && write(told, &i, sizeof i) != sizeof i)
+        if (pipe_end != NOBODY && write(pipe_end, &i, sizeof i) != sizeof i)
             _exit(2);
         name_program(arenas[i], written("%.*s.names", (int)(strlen(arenas[i]) - strlen(".arena")), arenas[i]));
     }

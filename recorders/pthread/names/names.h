@@ -125,9 +125,9 @@ bool is_of_library(const char *qualified_name);
 
 const char *demangled(const char *symbol); /* NULL if it can't be */
 
-const char *told(Dwarf_Die *die);            /* as qualified, with what tells apart those of one name */
-const char *told_variable(Dwarf_Die *variable); /* of a function, without that */
-const char *told_function(Dwarf_Die *function); /* and with its file's mark, if another file of the module has one of its own of that name */
+const char *distinct_name(Dwarf_Die *die);            /* as qualified, with what tells apart those of one name */
+const char *distinct_variable(Dwarf_Die *variable); /* of a function, without that */
+const char *distinct_function(Dwarf_Die *function); /* and with its file's mark, if another file of the module has one of its own of that name */
 
 /* ---- nameless.c */
 

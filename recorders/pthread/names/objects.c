@@ -81,7 +81,7 @@ static void note_bare(struct variable_here *v, struct scopes *s, int scope, cons
     const char *function = function_name(s->list, s->count, scope);
     if (bare->rule || !v->name || is_of_library(function))
         return;
-    bare->text = written("%s:%s%s%s", told_function(function_around(s->list, s->count, scope)), told_variable(&v->die), dwarf_tag(&v->peeled) == DW_TAG_array_type ? "[]" : "", member ? member : "");
+    bare->text = written("%s:%s%s%s", distinct_function(function_around(s->list, s->count, scope)), distinct_variable(&v->die), dwarf_tag(&v->peeled) == DW_TAG_array_type ? "[]" : "", member ? member : "");
     bare->rule = RULE_LOCAL;
 }
 

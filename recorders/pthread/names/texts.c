@@ -75,7 +75,7 @@ static const char *member_of(const struct path *path, int from) {
 
 static const char *text_from(const struct path *path, int from) {
     Dwarf_Die type = path->steps[from].type;
-    return written("%s%s::%s", file_mark(&type, qualified(&type)), without_anonymous(told(&type)), member_of(path, from));
+    return written("%s%s::%s", file_mark(&type, qualified(&type)), without_anonymous(distinct_name(&type)), member_of(path, from));
 }
 
 const char *text_of(const struct path *path) {

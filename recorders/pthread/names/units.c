@@ -14,11 +14,11 @@ static int by_range(const void *a, const void *b) {
     return x->unit.addr < y->unit.addr ? 1 : x->unit.addr > y->unit.addr ? -1 : 0;
 }
 
-static void add_ranges(struct module *m, Dwarf_Die *unit, Dwarf_Die *told) {
+static void add_ranges(struct module *m, Dwarf_Die *unit, Dwarf_Die *whole) {
     Dwarf_Addr base = 0, from, to;
     ptrdiff_t at = 0;
     while ((at = dwarf_ranges(unit, at, &base, &from, &to)) > 0) {
-        struct unit_range range = {from, to, *told};
+        struct unit_range range = {from, to, *whole};
         PUSH(m->ranges, m->range_count, range);
     }
 }

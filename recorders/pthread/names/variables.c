@@ -26,7 +26,7 @@ static bool is_array(Dwarf_Die type) {
 }
 
 static const char *text_of_variable(Dwarf_Die *die, Dwarf_Die type, const char *member) {
-    return written("%s%s%s%s", file_mark(die, qualified(die)), without_anonymous(told(die)), is_array(type) ? "[]" : "", member ? member : "");
+    return written("%s%s%s%s", file_mark(die, qualified(die)), without_anonymous(distinct_name(die)), is_array(type) ? "[]" : "", member ? member : "");
 }
 
 static bool variable_at(const struct variable *list, size_t count, uint64_t at, struct found *found) {
@@ -135,7 +135,7 @@ static const char *text_in_frame(Dwarf_Die *variable, struct wanted *wanted) {
     if (!type_of(variable, &type) || !is_at(variable, type, wanted, &found))
         return NULL;
     if (!found.text && name_of(variable))
-        return written("%s:%s%s%s", told_function(&wanted->called), told_variable(variable), is_array(type) ? "[]" : "", found.member ? found.member : "");
+        return written("%s:%s%s%s", distinct_function(&wanted->called), distinct_variable(variable), is_array(type) ? "[]" : "", found.member ? found.member : "");
     return found.text;
 }
 

@@ -13,9 +13,9 @@
 #include <threads.h>
 #include <time.h>
 
-#define REALS(X)                                                                                                       \
+#define REALS(X)                                                                                                          \
     X(pthread_once) X(call_once) X(dlopen) X(dlmopen) X(dlclose) X(sem_init) X(sem_destroy) X(sem_wait) X(sem_timedwait)  \
-    X(sem_clockwait) X(sem_trywait) X(sem_post) X(pthread_barrier_wait) X(mlockall) X(flockfile) X(ftrylockfile) X(funlockfile)
+    X(sem_clockwait) X(sem_trywait) X(sem_post) X(pthread_barrier_init) X(pthread_barrier_wait) X(mlockall) X(flockfile) X(ftrylockfile) X(funlockfile)
 
 REALS(KNOWN_REAL)
 
@@ -53,27 +53,34 @@ static bool might_have_run(uintptr_t control) {
     return slot && SWAP(slot, &none, 1);
 }
 
+/* In the history it is over before the control says so, and also if the routine throws. */
+static void end_routine(struct once **once) { NOTE_MESSAGE(STEP_RAN, (*once)->control, false, (*once)->call); }
+
 static void run_once(void) {
     struct once *once = self.midst.once;
     self.midst.once = once->before;
-    if (RARELY(run_source()))
+    if (UNLIKELY(run_source()))
         note_run_by_handler(once->control);
     if (once->is_recorded)
-        end_wish(once->control, true, once->call);
-    once->routine();
+        end_pending(once->control, true, once->call);
+    NOTE_MESSAGE(STEP_RUN, once->control, true, once->call);
+    struct once *running __attribute__((cleanup(end_routine))) = once;
+    running->routine();
 }
 
 static void end_once(struct once *once) {
-    if (self.midst.once == once)
+    if (self.midst.once == once) {
         self.midst.once = once->before;
+        put_passed(once->control, once->call);
+    }
     if (!once->is_recorded)
         return;
-    end_wish(once->control, true, once->call);
+    end_pending(once->control, true, once->call);
     releasing(once->control, once->call);
 }
 
 static inline void found_done(uintptr_t control, struct call call) {
-    bool is_not_done = RARELY(LOAD(&has_handler_run_one)) && might_have_run(control);
+    bool is_not_done = UNLIKELY(LOAD(&has_handler_run_one)) && might_have_run(control);
     if (LIKELY(!is_any_held() && !run_source() && !is_not_done))
         return;
     acquired(control, MODE_WRITE | (is_not_done ? 0 : RAW_DONE), KIND_ONCE, call);
@@ -89,13 +96,14 @@ static inline void found_done(uintptr_t control, struct call call) {
             return REAL(name)(control, routine);                                                                       \
         if (*(volatile int *)control & IS_DONE) {                                                                      \
             found_done((uintptr_t)control, HERE);                                                                      \
+            put_passed((uintptr_t)control, HERE);                                                                      \
             return REAL(name)(control, routine);                                                                       \
         }                                                                                                              \
         if (is_in_unwinder(CALLER))                                                                                    \
             return REAL(name)(control, routine);                                                                       \
         struct once once __attribute__((cleanup(end_once))) = {(uintptr_t)control, HERE, routine, false, self.midst.once};  \
-        once.is_recorded = begin_wish(once.control, MODE_WRITE, KIND_ONCE, once.call);                                 \
-        self.midst.once = &once;                                                                                            \
+        once.is_recorded = begin_pending(once.control, MODE_WRITE, KIND_ONCE, once.call);                              \
+        self.midst.once = &once;                                                                                       \
         return REAL(name)(control, run_once);                                                                          \
     }
 
@@ -175,29 +183,38 @@ EXPORT int __cxa_guard_acquire(guard *g) {
         return real_acquire(g);
     if (LOAD(&g->bytes[0])) {
         found_done((uintptr_t)g, HERE);
+        put_passed((uintptr_t)g, HERE);
         return real_acquire(g);
     }
-    bool is_recorded = begin_wish((uintptr_t)g, MODE_WRITE, KIND_ONCE, HERE);
+    bool is_recorded = begin_pending((uintptr_t)g, MODE_WRITE, KIND_ONCE, HERE);
     int is_ours = real_acquire(g);
     if (is_recorded) {
-        end_wish((uintptr_t)g, true, HERE);
+        end_pending((uintptr_t)g, true, HERE);
         if (!is_ours)
             releasing((uintptr_t)g, HERE);
     }
+    if (is_ours)
+        NOTE_MESSAGE(STEP_RUN, (uintptr_t)g, true, HERE);
+    else
+        put_passed((uintptr_t)g, HERE);
     return is_ours;
 }
 
 EXPORT void __cxa_guard_release(guard *g) {
     find_guards();
-    if (is_recording())
+    if (is_recording()) {
+        NOTE_MESSAGE(STEP_RAN, (uintptr_t)g, false, HERE);
         releasing((uintptr_t)g, HERE);
+    }
     real_release(g);
 }
 
 EXPORT void __cxa_guard_abort(guard *g) {
     find_guards();
-    if (is_recording())
+    if (is_recording()) {
+        NOTE_MESSAGE(STEP_RAN, (uintptr_t)g, false, HERE);
         releasing((uintptr_t)g, HERE);
+    }
     real_abort(g);
 }
 
@@ -251,7 +268,7 @@ __attribute__((destructor)) static void at_end(void) {
     if (LOAD(&has_opened) && is_recording())
         note_modules();
     if (is_recording()) {
-        end_own_wishes(HERE);
+        end_own_pending(HERE);
         note_waits_at_exit();
     }
 }
@@ -264,7 +281,7 @@ EXPORT int dlclose(void *handle) {
         forget_callers();
         return answer;
     }
-    acquired((uintptr_t)&loader, MODE_WRITE, KIND_RECURSIVE, HERE);
+    acquired((uintptr_t)&loader, MODE_WRITE, KIND_LOADER, HERE);
     int answer = REAL(dlclose)(handle);
     releasing((uintptr_t)&loader, HERE);
     forget_callers();
@@ -300,7 +317,7 @@ static bool asks_for(const char *what) {
 /* Whether it is asked for is found once: 1 no, 2 yes. */
 bool is_asked(int *known, const char *what) {
     begin_once();
-    if (RARELY(!LOAD(known)))
+    if (UNLIKELY(!LOAD(known)))
         STORE(known, asks_for(what) ? 2 : 1);
     return LOAD(known) == 2;
 }
@@ -327,6 +344,8 @@ static void posting(const sem_t *lock, struct call call) {
 EXPORT int sem_init(sem_t *lock, int shared, unsigned value) {
     bool is_seen = SEMAPHORES;
     int answer = REAL(sem_init)(lock, shared, value);
+    if (answer == 0)
+        put_numbered(STEP_COUNT, (uintptr_t)lock, shared ? 0 : value + 1, HERE);
     if (is_seen && answer == 0)
         initialised((uintptr_t)lock, HERE);
     if (is_seen && answer == 0 && value == 0)
@@ -361,28 +380,35 @@ static void end_pause(bool *is_begun) {
         note_pause();
 }
 
+/* In the history a post is a message to one of those that wait. */
+static int got(const sem_t *lock, int answer, struct call call) {
+    if (answer == 0)
+        NOTE_MESSAGE(STEP_GOT, (uintptr_t)lock, true, call);
+    return answer;
+}
+
 /* Tries first, as with a mutex. A wait that a signal ends is withdrawn. */
 #define WAITING(name, mode, is_sound, parameters, arguments)                                                           \
     EXPORT int name parameters {                                                                                       \
         if (!SEMAPHORES || !(is_sound) || is_left_out(lock)) {                                                         \
-            if (!is_recording() || !(is_sound))                                                                         \
+            if (!is_recording() || !(is_sound))                                                                        \
                 return REAL(name) arguments;                                                                           \
             if (takes_at_once(lock))                                                                                   \
-                return 0;                                                                                              \
+                return got(lock, 0, HERE);                                                                             \
             bool is_begun __attribute__((cleanup(end_pause))) = begin_pause();                                         \
-            return REAL(name) arguments;                                                                               \
+            return got(lock, REAL(name) arguments, HERE);                                                              \
         }                                                                                                              \
         int saved = errno, answer = REAL(sem_trywait)(lock);                                                           \
         if (answer == 0) {                                                                                             \
             took(lock, mode, HERE);                                                                                    \
-            return 0;                                                                                                  \
+            return got(lock, 0, HERE);                                                                                 \
         }                                                                                                              \
         errno = saved;                                                                                                 \
-        bool is_wish = begin_wish((uintptr_t)lock, mode, KIND_COUNTED, HERE);                                          \
+        bool is_pending = begin_pending((uintptr_t)lock, mode, KIND_COUNTED, HERE);                                    \
         answer = REAL(name) arguments;                                                                                 \
-        if (is_wish ? !end_wish((uintptr_t)lock, answer == 0, HERE) : answer == 0)                                     \
+        if (is_pending ? !end_pending((uintptr_t)lock, answer == 0, HERE) : answer == 0)                               \
             took(lock, mode, HERE);                                                                                    \
-        return answer;                                                                                                 \
+        return got(lock, answer, HERE);                                                                                \
     }
 
 WAITING(sem_wait, MODE_WRITE, true, (sem_t * lock), (lock))
@@ -396,21 +422,37 @@ EXPORT int sem_trywait(sem_t *lock) {
         tried((uintptr_t)lock, answer != 0, HERE);
     if (is_seen && answer == 0)
         took(lock, MODE_TRY_WRITE, HERE);
-    return answer;
+    return got(lock, answer, HERE);
 }
 
 EXPORT int sem_post(sem_t *lock) {
     note_handing_on();
     if (SEMAPHORES)
         posting(lock, HERE);
+    NOTE_MESSAGE(STEP_POST, (uintptr_t)lock, false, HERE);
     return REAL(sem_post)(lock);
+}
+
+/* What processes share isn't known by one of them. */
+static uint32_t waited_for_at(const pthread_barrierattr_t *how, unsigned count) {
+    int shared = PTHREAD_PROCESS_PRIVATE;
+    return how && (pthread_barrierattr_getpshared(how, &shared) != 0 || shared != PTHREAD_PROCESS_PRIVATE) ? 0 : count + 1;
+}
+
+EXPORT int pthread_barrier_init(pthread_barrier_t *restrict barrier, const pthread_barrierattr_t *restrict how, unsigned count) {
+    int answer = REAL(pthread_barrier_init)(barrier, how, count);
+    if (answer == 0)
+        put_numbered(STEP_COUNT, (uintptr_t)barrier, waited_for_at(how, count), HERE);
+    return answer;
 }
 
 /* Who waits at a barrier hands on what it has made to those that it lets pass. */
 EXPORT int pthread_barrier_wait(pthread_barrier_t *barrier) {
     note_handing_on();
     note_pause();
+    NOTE_MESSAGE(STEP_ARRIVE, (uintptr_t)barrier, false, HERE);
     int answer = REAL(pthread_barrier_wait)(barrier);
+    NOTE_MESSAGE(STEP_LEAVE, (uintptr_t)barrier, true, HERE);
     note_pause();
     return answer;
 }
@@ -421,9 +463,9 @@ EXPORT void flockfile(FILE *lock) {
     } else if (REAL(ftrylockfile)(lock) == 0) {
         acquired((uintptr_t)lock, MODE_WRITE, KIND_RECURSIVE, HERE);
     } else {
-        bool is_wish = begin_wish((uintptr_t)lock, MODE_WRITE, KIND_RECURSIVE, HERE);
+        bool is_pending = begin_pending((uintptr_t)lock, MODE_WRITE, KIND_RECURSIVE, HERE);
         REAL(flockfile)(lock);
-        if (!is_wish || !end_wish((uintptr_t)lock, true, HERE))
+        if (!is_pending || !end_pending((uintptr_t)lock, true, HERE))
             acquired((uintptr_t)lock, MODE_WRITE, KIND_RECURSIVE, HERE);
     }
 }

@@ -148,7 +148,7 @@ void say_subclass(uintptr_t lock, uint32_t subclass) {
 
 /* This thread has given the lock another object, by its name or by initialising it again. */
 void keep_nesting(uintptr_t lock) {
-    if (RARELY(self.midst.nested_lock == lock))
+    if (UNLIKELY(self.midst.nested_lock == lock))
         self.midst.nested_object = lock_object(lock);
 }
 

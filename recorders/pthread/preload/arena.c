@@ -1,5 +1,5 @@
 /* The file of a recorded program and the library's own memory: both are mapped once, before the program begins. */
-#include "own.h"
+#include "history.h"
 
 #include <errno.h>
 #include <fcntl.h>
@@ -99,8 +99,10 @@ static void share_out(struct raw_arena *a, uint64_t bytes) {
         a->regions[kind].from = at;
         at = rounded(at + (uint64_t)a->regions[kind].room * raw_size((enum raw_kind)kind), page);
     }
+    a->history_from = a->history_used = (bytes - (is_small ? 0 : bytes / RAW_HISTORY_SHARE)) / RAW_STEP_CHUNK * RAW_STEP_CHUNK;
+    a->history_to = bytes;
     a->records_used = at;
-    a->records_end = bytes;
+    a->records_end = a->history_from;
     a->bytes = bytes;
 }
 
@@ -416,6 +418,7 @@ static void begin(void) {
     made->started = (uint64_t)now.tv_sec * 1000000000 + (uint64_t)now.tv_nsec;
     arena = made;
     note_process(id, 0);
+    want_history();
     note_modules();
     if (is_for_libraries)
         note_shared_before();

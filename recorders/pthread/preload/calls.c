@@ -10,15 +10,15 @@
 
 /* ---- The real functions. */
 
-#define REALS(X)                                                                                                       \
-    X(pthread_mutex_init) X(pthread_mutex_destroy) X(pthread_mutex_lock) X(pthread_mutex_trylock)                       \
-    X(pthread_mutex_timedlock) X(pthread_mutex_clocklock) X(pthread_mutex_unlock) X(pthread_rwlock_init)                 \
+#define REALS(X)                                                                                                          \
+    X(pthread_mutex_init) X(pthread_mutex_destroy) X(pthread_mutex_lock) X(pthread_mutex_trylock)                         \
+    X(pthread_mutex_timedlock) X(pthread_mutex_clocklock) X(pthread_mutex_unlock) X(pthread_rwlock_init)                  \
     X(pthread_rwlock_destroy) X(pthread_rwlock_rdlock) X(pthread_rwlock_tryrdlock) X(pthread_rwlock_timedrdlock)          \
     X(pthread_rwlock_clockrdlock) X(pthread_rwlock_wrlock) X(pthread_rwlock_trywrlock) X(pthread_rwlock_timedwrlock)      \
     X(pthread_rwlock_clockwrlock) X(pthread_rwlock_unlock) X(pthread_spin_init) X(pthread_spin_destroy)                   \
     X(pthread_spin_lock) X(pthread_spin_trylock) X(pthread_spin_unlock) X(pthread_cond_wait) X(pthread_cond_timedwait)    \
     X(pthread_cond_clockwait) X(mtx_init) X(mtx_destroy) X(mtx_lock) X(mtx_timedlock) X(mtx_trylock) X(mtx_unlock)        \
-    X(cnd_wait) X(cnd_timedwait) X(pthread_cond_signal) X(pthread_cond_broadcast) X(cnd_signal) X(cnd_broadcast)           \
+    X(cnd_wait) X(cnd_timedwait) X(pthread_cond_signal) X(pthread_cond_broadcast) X(cnd_signal) X(cnd_broadcast)          \
     X(pthread_create)
 
 REALS(KNOWN_REAL)
@@ -77,7 +77,7 @@ static inline bool took(int answer) { return answer == 0 || answer == EOWNERDEAD
         if (!real)                                                                                                     \
             return 0;                                                                                                  \
         int answer = real arguments;                                                                                   \
-        tried((uintptr_t)lock, !took(answer), HERE);                                                                         \
+        tried((uintptr_t)lock, !took(answer), HERE);                                                                   \
         if (took(answer))                                                                                              \
             acquired((uintptr_t)lock, mode, KIND_OF(lock), HERE);                                                      \
         return answer;                                                                                                 \
@@ -88,10 +88,10 @@ static inline bool took(int answer) { return answer == 0 || answer == EOWNERDEAD
    looked up right there in the calls that programs make often: that takes room in each. */
 #define TAKING(name, try, taken, mode, is_sound, is_often, parameters, arguments)                                      \
     __attribute__((noinline)) static int wait_by_##name AND_MORE parameters {                                          \
-        bool is_taken = answer == taken, is_wish = is_taken && begin_wish((uintptr_t)lock, mode, KIND_OF(lock), call); \
+        bool is_taken = answer == taken, is_pending = is_taken && begin_pending((uintptr_t)lock, mode, KIND_OF(lock), call); \
         if (is_taken)                                                                                                  \
             answer = REAL(name) arguments;                                                                             \
-        if (is_wish ? !end_wish((uintptr_t)lock, took(answer), call) : took(answer))                                   \
+        if (is_pending ? !end_pending((uintptr_t)lock, took(answer), call) : took(answer))                             \
             acquired((uintptr_t)lock, mode, KIND_OF(lock), call);                                                      \
         return answer;                                                                                                 \
     }                                                                                                                  \
@@ -100,7 +100,7 @@ static inline bool took(int answer) { return answer == 0 || answer == EOWNERDEAD
         if (!real_try)                                                                                                 \
             return 0;                                                                                                  \
         int answer = is_sound ? real_try(lock) : taken;                                                                \
-        if (RARELY(answer != 0))                                                                                       \
+        if (UNLIKELY(answer != 0))                                                                                     \
             return KEEPING_FRAME(wait_by_##name AND_THESE arguments);                                                  \
         if (!is_often)                                                                                                 \
             acquired((uintptr_t)lock, mode, KIND_OF(lock), HERE);                                                      \
@@ -120,7 +120,7 @@ static inline bool took(int answer) { return answer == 0 || answer == EOWNERDEAD
         if (!real)                                                                                                     \
             return 0;                                                                                                  \
         if (KNOWS_OWNER(lock)) {                                                                                       \
-            if (RARELY(!releasing_own((uintptr_t)lock, call)))                                                         \
+            if (UNLIKELY(!releasing_own((uintptr_t)lock, call)))                                                       \
                 return release_unseen((int (*)(void *))real, (void *)lock, call);                                      \
         } else {                                                                                                       \
             releasing((uintptr_t)lock, call);                                                                          \
@@ -241,6 +241,7 @@ struct waiting {
 
 static void begin_wait(struct waiting *w, bool is_sound) {
     note_pause();
+    NOTE_MESSAGE(STEP_WAIT, w->condition, false, w->call);
     w->is_released = is_sound && is_held_once(w->lock);
     if (w->is_released) {
         w->subclass = subclass_held(w->lock);
@@ -253,7 +254,7 @@ static void end_wait(void *value) {
     struct waiting *w = value;
     note_pause();
     if (w->is_released) {
-        if (RARELY(w->subclass))
+        if (UNLIKELY(w->subclass))
             say_subclass(w->lock, w->subclass);
         acquired(w->lock, MODE_WRITE, KIND_MUTEX, w->call);
         end_hearing(&w->hearing, w->lock, w->condition);
@@ -270,6 +271,8 @@ static void end_wait(void *value) {
         pthread_cleanup_push(end_wait, &w);                                                                            \
         answer = REAL(name) arguments;                                                                                 \
         w.is_released = w.is_released && answer != ENOTRECOVERABLE;                                                    \
+        if (answer == 0)                                                                                               \
+            NOTE_MESSAGE(STEP_WOKEN, w.condition, true, w.call);                                                       \
         pthread_cleanup_pop(1);                                                                                        \
         return answer;                                                                                                 \
     }
@@ -288,6 +291,7 @@ WAITING(cnd_timedwait, is_time(until), (cnd_t *restrict condition, mtx_t *restri
         if (!real)                                                                                                     \
             return 0;                                                                                                  \
         note_signal((uintptr_t)condition, HERE);                                                                       \
+        NOTE_MESSAGE(STEP_SIGNAL, (uintptr_t)condition, false, HERE);                                                  \
         return real(condition);                                                                                        \
     }
 
@@ -301,12 +305,12 @@ SIGNALLING(cnd_broadcast, cnd_t)
 EXPORT int pthread_create(pthread_t *thread, const pthread_attr_t *how, void *(*run)(void *), void *with) {
     if (!resolved())
         return EAGAIN;
-    if (RARELY(is_for_libraries))
+    if (UNLIKELY(is_for_libraries))
         comes_from_library(HERE);
     note_handing_on();
     if (is_recording())
         note_frames(HERE);
-    struct starting starting = begin_start();
+    struct starting starting = begin_start(HERE);
     int error = REAL(pthread_create)(thread, how, run, with);
     if (!error) {
         forget_name(*thread);

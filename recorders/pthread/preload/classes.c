@@ -3,7 +3,7 @@
    A class is where a lock was initialised; else what static lock it is; else where its memory was allocated, and where in that
    memory it is; else in which function's frame it lies; else where it was first taken. An object is one of the first RAW_APART of the
    class's locks that were nested with others: all others of the class are one object. */
-#include "own.h"
+#include "held.h"
 
 /* ---- What the library keeps of each class, in blocks that are made when they are needed. */
 
@@ -124,7 +124,7 @@ struct further {
 static struct further *further_of(uint32_t class) {
     static struct further *all;
     struct further *there = LOAD(&all);
-    if (RARELY(!there)) {
+    if (UNLIKELY(!there)) {
         struct further *made = take_spare(sizeof *made * MOST_CLASSES);
         if (made && SWAP(&all, &there, made))
             there = made;
@@ -245,7 +245,7 @@ static uint32_t class_of_lock(uintptr_t lock, struct memory *memory, struct call
     if (!is_static && find_shared(lock, &file, &class.offset))
         return class_in_file(file, class.offset);
     if (!is_static && find_memory(lock, memory)) {
-        if (RARELY(is_given_out(lock, memory->place)))
+        if (UNLIKELY(is_given_out(lock, memory->place)))
             return class_by_taker(call);
         class.place = memory->place;
         class.offset = lock - memory->from;
@@ -296,15 +296,20 @@ static uint32_t object_in_file(uint32_t class, uint32_t file, uint64_t offset, u
     return object || !slot ? object : settled(slot, define_object(class, RAW_SHARED, file, offset, generation));
 }
 
-/* Of a lock that isn't known, or has just been initialised. */
-static uint32_t new_object(uintptr_t lock, uint32_t class, bool is_initialised) {
+/* What is known of a lock that gets an object: it has got another name, it was met first, or it has just been initialised. */
+enum coming { RENAMED, MET, INITIALISED };
+
+static uint32_t new_object(uintptr_t lock, uint32_t class, enum coming coming) {
     uint32_t file, object = 0;
     uint64_t offset;
     if (class && find_shared(lock, &file, &offset))
-        object = object_in_file(class, file, offset, is_initialised ? next_generation(file, offset) : generation_of(file, offset));
+        object = object_in_file(class, file, offset, coming == INITIALISED ? next_generation(file, offset) : generation_of(file, offset));
     else if (class)
         object = object_numbered(class, 0);
-    return object ? add_lock(lock, object) : 0;
+    if (!object)
+        return 0;
+    name_in_history(lock, object, coming != RENAMED);
+    return add_lock(lock, object);
 }
 
 static enum class_kind kind_of(uint32_t class) {
@@ -330,7 +335,7 @@ bool is_of_frame(uint32_t object, uint64_t function, uint64_t offset) {
 bool is_in_shared_memory(uint32_t object) {
     const struct raw_object *o = part_of(RAW_OBJECTS, object);
     const struct raw_class *class = part_of(RAW_CLASSES, o->class);
-    return RARELY(o->ordinal == RAW_SHARED) && !(class->kind == CLASS_FILE && class->offset == RAW_WHOLE_FILE);
+    return UNLIKELY(o->ordinal == RAW_SHARED) && !(class->kind == CLASS_FILE && class->offset == RAW_WHOLE_FILE);
 }
 
 /* Whether any process has initialised a lock that processes share since it is known as this object. */
@@ -344,7 +349,7 @@ static uint32_t object_now(uintptr_t lock, uint32_t object) {
     const struct raw_object *o = part_of(RAW_OBJECTS, object);
     uint32_t class = is_said(kind_of(o->class)) ? o->class : class_in_file(o->file, o->offset);
     drop_lock(lock);
-    return new_object(lock, class, false);
+    return new_object(lock, class, MET);
 }
 
 /* Whether the lock ends with this thread. */
@@ -356,14 +361,14 @@ static bool is_own(uintptr_t lock, uint32_t class, struct call call) {
 /* The first lock of a class is looked at. */
 static void look_once(uint32_t number, uintptr_t lock, const struct memory *memory, struct call call) {
     struct raw_class *class = number ? part_of(RAW_CLASSES, number) : NULL;
-    if (RARELY(class && !LOAD(&class->look)))
+    if (UNLIKELY(class && !LOAD(&class->look)))
         look_at(class, lock, memory, call);
 }
 
 uint32_t object_of_lock(uintptr_t lock, struct call call) {
     uint32_t object = lock_object(lock);
     if (LIKELY(object && !is_outdated(lock, object, call)))
-        return RARELY(is_initialised_since(object)) ? object_now(lock, object) : object;
+        return UNLIKELY(is_initialised_since(object)) ? object_now(lock, object) : object;
     if (object)
         drop_lock(lock);
     struct memory memory;
@@ -373,7 +378,7 @@ uint32_t object_of_lock(uintptr_t lock, struct call call) {
         note_new_lock(class, lock, &memory, call);
     if (is_own(lock, class, call))
         note_own_lock(lock);
-    return new_object(lock, class, false);
+    return new_object(lock, class, MET);
 }
 
 /* The smallest ordinal that no object of the class has had, or 0. */
@@ -397,7 +402,10 @@ uint32_t apart(uintptr_t lock, uint32_t object) {
     struct kept_of_class *kept = kept_of(class);
     uint32_t ordinal = kept ? taken_ordinal(kept) : 0;
     uint32_t own = ordinal ? object_numbered(class, ordinal) : 0;
-    return own && put_lock(lock, own) == own ? own : object;
+    if (!own || put_lock(lock, own) != own)
+        return object;
+    name_in_history(lock, own, false);
+    return own;
 }
 
 /* The same of a lock that isn't nested in another one: it may be held while a thread is waited for, and so may the thread that takes it. Most
@@ -450,7 +458,7 @@ bool know_by_place(uintptr_t lock, struct call call) {
     if (place)
         class = known_class((struct raw_class){.kind = CLASS_INIT, .place = place});
     look_once(class, lock, &memory, call);
-    uint32_t object = new_object(lock, class, true);
+    uint32_t object = new_object(lock, class, INITIALISED);
     return object && ordinal_of(object) != RAW_SHARED;
 }
 
@@ -469,7 +477,7 @@ void know_by_text(uintptr_t lock, enum class_kind kind, uint32_t text, struct ca
     if (!class || class == before)
         return;
     drop_lock(lock);
-    new_object(lock, class, false);
+    new_object(lock, class, RENAMED);
 }
 
 /* Why the program ignores the lock, as the number of a text; 0 if it doesn't. */

@@ -101,7 +101,7 @@ struct request {
     int descriptor; /* by which it will be held, or ANY */
     bool is_write, may_wait;
     struct call call;
-    bool is_wish;
+    bool is_pending;
 };
 
 static uint8_t mode_of(const struct request *r) {
@@ -119,13 +119,13 @@ static bool end_try(struct request *r, bool is_taken) {
     bool is_busy = errno == EAGAIN || errno == EACCES;
     if (!r->may_wait || !is_busy)
         return false;
-    r->is_wish = begin_wish((uintptr_t)r->lock, mode_of(r), KIND_RECURSIVE, r->call);
+    r->is_pending = begin_pending((uintptr_t)r->lock, mode_of(r), KIND_RECURSIVE, r->call);
     return true;
 }
 
 static void end_wait(const struct request *r, bool is_taken) {
-    if (r->is_wish)
-        end_wish((uintptr_t)r->lock, is_taken, r->call);
+    if (r->is_pending)
+        end_pending((uintptr_t)r->lock, is_taken, r->call);
     if (is_taken)
         note_taken(r->lock, r->descriptor);
 }
@@ -218,10 +218,10 @@ static void note_owner_of(int descriptor) {
         va_start(more, command);                                                                                       \
         void *with = va_arg(more, void *);                                                                             \
         va_end(more);                                                                                                  \
-        if (RARELY(is_of_ranges(command) && with && FILES))                                                            \
+        if (UNLIKELY(is_of_ranges(command) && with && FILES))                                                          \
             return KEEPING_FRAME(set_range(descriptor, command, with, HERE));                                          \
         int answer = REAL(fcntl)(descriptor, command, with);                                                           \
-        if (RARELY(is_of_signals(command)) && answer == 0 && is_recording())                                           \
+        if (UNLIKELY(is_of_signals(command)) && answer == 0 && is_recording())                                         \
             note_owner_of(descriptor);                                                                                 \
         return answer;                                                                                                 \
     }
@@ -253,13 +253,13 @@ static void give_up_closed(int descriptor, struct call call) {
 }
 
 EXPORT int close(int descriptor) {
-    if (RARELY(held_here && FILES))
+    if (UNLIKELY(held_here && FILES))
         give_up_closed(descriptor, HERE);
     return REAL(close)(descriptor);
 }
 
 EXPORT int fclose(FILE *stream) {
-    if (RARELY(held_here && FILES))
+    if (UNLIKELY(held_here && FILES))
         give_up_closed(fileno(stream), HERE);
     return REAL(fclose)(stream);
 }

@@ -5,7 +5,7 @@
 
 #define FILE_NAME "generations"
 #define SLOTS 65536
-#define TRIES 64 /* slots, from the one of the lock's own on */
+#define PROBES 64 /* slots, from the one of the lock's own on */
 
 struct slot {
     uint64_t key; /* 0: of none. It is never taken out. */
@@ -38,7 +38,7 @@ static uint64_t key_of(uint32_t number, uint64_t offset) {
 
 /* The slot of a key, or the empty one where it isn't yet; NULL: no room. */
 static struct slot *slot_of(struct slot *from, uint64_t key) {
-    for (uint64_t i = 0; i < TRIES; i++) {
+    for (uint64_t i = 0; i < PROBES; i++) {
         struct slot *slot = &from[(mixed(key) + i) % SLOTS];
         uint64_t there = LOAD(&slot->key);
         if (there == key || !there)

@@ -11,7 +11,7 @@
 
 #pragma GCC diagnostic ignored "-Wdeprecated-declarations"
 
-#define REALS(X)                                                                                                       \
+#define REALS(X)                                                                                                          \
     X(sigaction) X(signal) X(bsd_signal) X(ssignal) X(sysv_signal) X(sigset) X(sigignore) X(siginterrupt) X(timer_create) \
     X(sigqueue) X(pthread_sigqueue)
 __sighandler_t bsd_signal(int number, __sighandler_t handler);
@@ -27,10 +27,10 @@ static int wanted;
 
 static bool is_wanted(void) {
     begin_once();
-    if (RARELY(!LOAD(&wanted))) {
+    if (UNLIKELY(!LOAD(&wanted))) {
         const char *how = is_for_libraries ? "off" : variable("LOCKDEP_SIGNALS");
         if (is_recording() && how && is_same_text(how, "all"))
-            heed_allocator();
+            watch_malloc();
         STORE(&wanted, is_recording() && !(how && is_same_text(how, "off")) ? 2 : 1);
     }
     return LOAD(&wanted) == 2;
@@ -58,7 +58,7 @@ static int stub_for(struct action *new, struct call call) {
         struct action *a = &actions[i];
         uintptr_t there = LOAD(&a->handler);
         if (there == new->handler && is_same(a, new)) {
-            if (RARELY(is_source_gone(LOAD(&a->source))))
+            if (UNLIKELY(is_source_gone(LOAD(&a->source))))
                 STORE(&a->source, source_of(new->number, new->handler, call));
             return (int)i;
         }
@@ -128,11 +128,11 @@ static int act(int number, const struct sigaction *new, struct sigaction *old, s
         new = &wrapped;
     }
     uint32_t source = stub >= 0 ? actions[stub].source : 0, before = installed_source(number);
-    bool is_told = new && source != before && is_own_process();
-    if (is_told && source)
+    bool is_change = new && source != before && is_own_process();
+    if (is_change && source)
         note_installed(number, source, call);
     int answer = REAL(sigaction)(number, new, old);
-    if (is_told && (answer != 0 || !source))
+    if (is_change && (answer != 0 || !source))
         note_installed(number, answer != 0 ? before : 0, call);
     if (answer == 0 && old)
         take_stub_out(number, old);

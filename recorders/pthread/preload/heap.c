@@ -94,7 +94,7 @@ static __attribute__((noinline)) void put_in_next_level(int level, uintptr_t add
 
 static inline void put_piece(uintptr_t address, uint64_t about) {
     int level = LOAD(&main_level_of_pieces);
-    if (RARELY(!put_in_level(level, address, about)))
+    if (UNLIKELY(!put_in_level(level, address, about)))
         put_in_next_level(level, address, about);
 }
 
@@ -181,10 +181,10 @@ static inline bool is_noted_size(size_t size) { return LIKELY(size - LEAST_LOCK 
 /* A word that an earlier piece left, whose end wasn't seen, says nothing any more. */
 static inline void put_long(uintptr_t address, uint64_t about) {
     uint64_t *word = short_word(address);
-    if (RARELY(word && LOAD(word)))
+    if (UNLIKELY(word && LOAD(word)))
         STORE(word, 0);
     put_piece(address, about);
-    if (RARELY(about >> SIZE_SHIFT >= LONG_PIECE))
+    if (UNLIKELY(about >> SIZE_SHIFT >= LONG_PIECE))
         put_parts(address, about >> SIZE_SHIFT);
 }
 
@@ -210,7 +210,7 @@ static inline void put_from(void *piece, size_t size, uint32_t place) {
 static inline void put_noted(void *piece, size_t size, const struct asked *asked) {
     uint32_t place = place_of_piece(asked);
     put_from(piece, size, place);
-    if (RARELY(asked->mark))
+    if (UNLIKELY(asked->mark))
         __atomic_store_n(asked->mark, mark_of((uintptr_t)piece, (uint64_t)size << SIZE_SHIFT | place), __ATOMIC_RELAXED);
 }
 
@@ -220,7 +220,7 @@ static __attribute__((noinline)) uint64_t taken_from_slot(uintptr_t address) {
         return 0;
     uint64_t about = LOAD(&slot->about);
     STORE(&slot->address, 0);
-    if (RARELY(about >> SIZE_SHIFT >= LONG_PIECE))
+    if (UNLIKELY(about >> SIZE_SHIFT >= LONG_PIECE))
         take_parts_out(address, about >> SIZE_SHIFT);
     return about;
 }
@@ -228,7 +228,7 @@ static __attribute__((noinline)) uint64_t taken_from_slot(uintptr_t address) {
 /* What was known of a piece, which is taken out; 0 if nothing was. */
 static inline uint64_t taken_piece(uintptr_t address) {
     uint64_t *word = short_word(address), about = word ? LOAD(word) : 0;
-    if (RARELY(!about))
+    if (UNLIKELY(!about))
         return taken_from_slot(address);
     STORE(word, 0);
     return about;
@@ -358,9 +358,9 @@ bool find_memory(uintptr_t lock, struct memory *memory) {
 REALS(DECLARE)
 RARE_REALS(KNOWN_REAL)
 
-static int resolve_state; /* 0 not begun, 1 under way, then DONE or HEEDED */
-enum { DONE = 2, HEEDED };
-static bool is_heeded;
+static int resolve_state; /* 0 not begun, 1 under way, then DONE or WATCHED */
+enum { DONE = 2, WATCHED };
+static bool is_watched;
 
 #define EARLY_BYTES 65536
 static char early[EARLY_BYTES] LARGE;
@@ -386,20 +386,20 @@ __attribute__((noinline)) static bool look_up(struct call call) {
         if (!finds_quickly()) {
             RARE_REALS(FIND_REAL)
         }
-        STORE(&resolve_state, is_heeded ? HEEDED : DONE);
+        STORE(&resolve_state, is_watched ? WATCHED : DONE);
     }
     state = LOAD(&resolve_state);
-    if (state == HEEDED && call.frame)
+    if (state == WATCHED && call.frame)
         use_allocator(call);
     return state >= DONE;
 }
 
-bool heeds_allocator(void) { return is_heeded; }
+bool watches_malloc(void) { return is_watched; }
 
-void heed_allocator(void) {
+void watch_malloc(void) {
     int state = DONE;
-    is_heeded = true;
-    SWAP(&resolve_state, &state, HEEDED);
+    is_watched = true;
+    SWAP(&resolve_state, &state, WATCHED);
 }
 
 static inline bool resolved_for(struct call call) { return LIKELY(LOAD(&resolve_state) == DONE) || look_up(call); }
@@ -409,7 +409,7 @@ static inline bool resolved_for(struct call call) { return LIKELY(LOAD(&resolve_
 
 static inline uint64_t asked_element(size_t size) {
     uint64_t element = 0;
-    if (RARELY(self.midst.array_asked_for)) {
+    if (UNLIKELY(self.midst.array_asked_for)) {
         element = self.midst.array_asked_for == size ? RAW_ARRAY : 0;
         self.midst.array_asked_for = 0;
     }
@@ -440,11 +440,11 @@ LINED_UP EXPORT __attribute__((flatten)) void *malloc(size_t size) {
     if (!resolved())
         return early_memory(size);
     uint64_t element = asked_element(size);
-    if (RARELY(!is_noted_size(size) || !arena))
+    if (UNLIKELY(!is_noted_size(size) || !arena))
         return real_malloc(size);
     uint64_t key = key_of_call(HERE, size, element);
     uint32_t place = LIKELY(key) ? place_of_plain(key) : 0;
-    if (RARELY(!place)) {
+    if (UNLIKELY(!place)) {
         void *piece = malloc_by_stack(size, element, key, HERE);
         AS_WRITTEN; /* so that this frame is there until then: the stack is followed from it */
         return piece;
@@ -471,10 +471,10 @@ EXPORT void *calloc(size_t count, size_t size) {
 static inline uint64_t taken_if_noted(void *piece) { return arena && piece ? taken_piece((uintptr_t)piece) : 0; }
 
 LINED_UP EXPORT void free(void *piece) {
-    if (RARELY(is_early(piece)) || !resolved_for(piece ? HERE : NO_CALL))
+    if (UNLIKELY(is_early(piece)) || !resolved_for(piece ? HERE : NO_CALL))
         return;
     uint64_t about = taken_if_noted(piece);
-    if (RARELY(locks_of(about)))
+    if (UNLIKELY(locks_of(about)))
         end_locks((uintptr_t)piece, about, CALLER);
     real_free(piece);
 }
@@ -503,7 +503,7 @@ static void *reallocated(void *piece, size_t size, uint64_t element, struct call
 }
 
 EXPORT void *realloc(void *piece, size_t size) {
-    if (RARELY(is_early(piece)))
+    if (UNLIKELY(is_early(piece)))
         return grown_early(piece, size);
     return resolved() ? KEEPING_FRAME(reallocated(piece, size, 0, HERE)) : early_memory(size);
 }

@@ -1,13 +1,16 @@
 /* What a thread holds, and the steps that it takes again and again.
 
    A step is a lock that is taken in some way on top of what is held. One that was taken before brings nothing new: it is looked up, and all
-   that is asked is whether everything is as it was then. What is left behind is just what the long way of threads.c leaves: the same entry,
-   record and counts. */
+   that is asked is whether everything is as it was then. What is left behind is just what the long way of acquisitions.c and releases.c leaves: the
+   same entry, record and counts. */
 #ifndef LOCKDEP_HELD_H
 #define LOCKDEP_HELD_H
-#include "own.h"
+#include "history.h"
 
 #include <string.h>
+#ifdef __x86_64__
+#include <x86intrin.h>
+#endif
 
 enum reader { BY_OBJECTS, BY_CLASSES, READERS };
 
@@ -19,11 +22,13 @@ struct held {
     uint32_t depth;    /* of a recursive mutex: how often it was taken again */
     uint8_t kind;
     bool is_written; /* there is a record of it */
-    bool is_wish;    /* the thread still waits for it */
+    bool is_pending; /* the thread still waits for it */
     uint8_t weak;    /* what of RAW_WEAK its record has besides */
     uint32_t since;  /* as in struct heard; 0 if the thread hasn't waited for a condition with the lock since it took it */
     uint64_t record; /* the number of its record */
     uint64_t fresh_before; /* where the last record of something new ended then */
+    uint64_t taken_at;     /* the step of the history that has taken it so; 0 of none */
+    bool is_timed;         /* the wait for it gives up at a time, also if that isn't noted as weak */
 };
 #define SAME_OF_HELD offsetof(struct held, record)
 
@@ -41,12 +46,12 @@ struct level {
     uint64_t hash;  /* of the locks that were held then */
 };
 
-/* What is known at one depth of nesting. */
+/* What is known at one depth of nesting: two lines of the processor's. */
 struct entry {
-    struct level level; /* close to what the one before has last, since both are written at once */
+    struct level level;
     struct held held;
     struct links links;
-};
+} __attribute__((aligned(64)));
 
 struct step {
     struct held held; /* of lock 0: there is none here */
@@ -118,7 +123,7 @@ struct thread {
     uint64_t failed_under; /* how many of the locks that were held at the last try that failed are held since: the oldest ones */
     uintptr_t failed;      /* the lock of that try */
     struct loading loading;
-    struct call wish; /* the call in which it waits for a lock, the outermost if a signal's handler waits too; frame 0: in none */
+    struct call pending; /* the call in which it waits for a lock, the outermost if a signal's handler waits too; frame 0: in none */
     struct raw_record *records; /* the chunk that the last record came to: it has those from one number on, and so many */
     uint64_t records_from, records_room;
     struct raw_record *chunks[RAW_CHUNKS];
@@ -144,7 +149,7 @@ struct thread {
     uint32_t unnoted; /* so many holds there are without an entry */
     uint32_t heard_count; /* with those that aren't here any more */
     struct heard heard[MOST_HEARD]; /* the conditions that it waited for last */
-    uint32_t *held_by_trace; /* room for mending; NULL until it is needed */
+    uint32_t *held_by_trace; /* room for restore_after_jump; NULL until it is needed */
     uintptr_t own_locks[OWN_LOCKS]; /* the last ones that were met first by it, in its frames or among its own variables; 0: none */
     uint32_t own_lock_count; /* so many there were, with those that aren't here any more */
     struct own_piece own_pieces[OWN_PIECES]; /* the last ones that it allocated with something held */
@@ -220,6 +225,8 @@ struct self {
         };
         struct current current; /* the same at once */
     };
+    uintptr_t history_at;   /* where the thread's next step goes; at the end of a chunk, and at 0, one is to be begun first; or NO_HISTORY */
+    uint64_t history_epoch; /* the high part of the time that was written in full last */
     bool is_ended, is_mask_known;
     bool is_changing_mask; /* by a call that is under way */
     uint8_t destructor_rounds;
@@ -241,6 +248,60 @@ QUICK void go_outside(void) {
     self.inside_frame = 0;
 }
 
+/* ---- The history. The time of a step is looked at after a lock was taken, and before it is released. */
+
+extern uint64_t has_clock; /* the processor's counter is a clock for all of its cores */
+extern uint64_t counted;   /* else there is one of this process's */
+
+QUICK uint64_t counted_time(void) { return __atomic_add_fetch(&counted, 1, __ATOMIC_SEQ_CST); }
+
+QUICK uint64_t time_after(void) {
+#ifdef __x86_64__
+    if (LIKELY(has_clock)) {
+        _mm_lfence(); /* else the counter might be read before the lock is taken */
+        return __rdtsc();
+    }
+#endif
+    return counted_time();
+}
+
+/* What is written to memory after that isn't seen by others before it. */
+QUICK uint64_t time_before(void) {
+#ifdef __x86_64__
+    if (LIKELY(has_clock))
+        return __rdtsc();
+#endif
+    return counted_time();
+}
+
+QUICK bool has_history(void) { return self.history_at != NO_HISTORY; }
+
+/* A step that isn't one of a lock, of a call from there. */
+#define NOTE_MESSAGE(...) (UNLIKELY(has_history()) ? put_message(__VA_ARGS__) : (void)0)
+
+/* Steps of one word. They are asked for before anything of a lock's step is changed, since else that goes the long way, which finds room. */
+struct quick_step {
+    uintptr_t at; /* NO_HISTORY if nothing is to be written */
+    uint64_t time;
+};
+
+/* False: the long way is to be gone. */
+QUICK bool begin_quick_step(struct quick_step *step, bool is_kept, uint64_t taken_at, bool is_after) {
+    step->at = is_kept ? self.history_at : NO_HISTORY;
+    if (LIKELY(step->at == NO_HISTORY))
+        return true;
+    step->time = is_after ? time_after() : time_before();
+    return !is_at_end(step->at) && step->time >> RAW_EPOCH_BITS == self.history_epoch && taken_at;
+}
+
+QUICK void end_quick_step(const struct quick_step *step, enum raw_step_form form, uint64_t taken_at) {
+    if (LIKELY(step->at == NO_HISTORY))
+        return;
+    self.history_at = step->at + sizeof(uint64_t);
+    __atomic_signal_fence(__ATOMIC_RELEASE);
+    *(uint64_t *)step->at = raw_first_word(step->time, form, (uint32_t)taken_at);
+}
+
 extern uint64_t is_memo_off; /* by LOCKDEP_MEMO=off, for tests: what is recorded is the same */
 
 /* It grows whenever other threads may get to know what this one has made, by the locks that it releases and the threads that it starts, and
@@ -249,18 +310,20 @@ QUICK uint32_t handed_on(const struct thread *t) { return (uint32_t)t->raw->call
 
 /* Is done whenever something of this may have changed. A lock that was just initialised, if nothing was held, goes the long way when it is taken. */
 QUICK void note_unsettled(struct thread *t) {
-    t->is_unsettled = t->loading.lock | t->wish.frame | t->failed_under | t->is_turned | is_memo_off | (t->made_at == handed_on(t));
+    t->is_unsettled = t->loading.lock | t->pending.frame | t->failed_under | t->is_turned | is_memo_off | (t->made_at == handed_on(t));
 }
 
 QUICK void note_own_piece(uintptr_t address) {
     struct thread *t = self.thread;
-    if (RARELY(t && t->depth))
+    if (UNLIKELY(t && t->depth))
         t->own_pieces[t->own_piece_count++ % OWN_PIECES] = (struct own_piece){address, handed_on(t)};
 }
 
 /* ---- Steps. */
 
-QUICK uintptr_t step_from(uintptr_t caller, uint8_t mode, enum kind kind) { return caller << 8 | (uintptr_t)kind << 5 | mode; }
+#define MODE_BITS 5
+#define KIND_MASK 7
+QUICK uintptr_t step_from(uintptr_t caller, uint8_t mode, enum kind kind) { return caller << 8 | (uintptr_t)kind << MODE_BITS | mode; }
 
 QUICK uint64_t step_key(uint64_t before, uintptr_t lock, uintptr_t from) {
     return before ^ (lock ^ from) * UINT64_C(0x9e3779b97f4a7c15) >> 32;
@@ -277,7 +340,8 @@ QUICK bool step_on(struct thread *t, uintptr_t lock, uintptr_t from) {
     if (t->is_unsettled || s->held.lock != lock || s->from != from || s->before != before || s->era != LOAD(era) || LOAD(s->slot) != s->word)
         return false;
     uint64_t count = raw->count, nth = count - t->records_from;
-    if (nth >= t->records_room)
+    struct quick_step step;
+    if (nth >= t->records_room || !begin_quick_step(&step, is_in_history((enum kind)(from >> MODE_BITS & KIND_MASK)), s->held.taken_at, true))
         return false;
     struct entry *e = &t->entries[t->depth];
     memcpy(&e->held, &s->held, SAME_OF_HELD);
@@ -293,6 +357,8 @@ QUICK bool step_on(struct thread *t, uintptr_t lock, uintptr_t from) {
     t->records[nth] = s->record;
     __atomic_signal_fence(__ATOMIC_RELEASE);
     raw->count = count + 1;
+    e->held.taken_at = s->held.taken_at;
+    end_quick_step(&step, RAW_AGAIN, s->held.taken_at);
     return true;
 }
 
@@ -304,19 +370,23 @@ QUICK bool step_back(struct thread *t, uintptr_t lock) {
     if (t->is_unsettled || e->held.lock != lock || e->held.depth | (e->held.weak & RAW_NEW) || start < t->fresh_end ||
         e->level.hash != e[-1].links.hash || t->era != LOAD(era) || memcmp(e->held.what, e->links.what, sizeof e->held.what) != 0)
         return false;
+    struct quick_step step;
+    if (!begin_quick_step(&step, true, e->held.taken_at, false))
+        return false;
     struct raw_thread *raw = t->raw;
     t->hash = e->level.hash;
     t->depth--;
     raw->calls++;
     raw->left_out.repeated += raw->count - start;
     raw->count = start;
+    end_quick_step(&step, RAW_BACK, e->held.taken_at);
     return true;
 }
 
 /* Whether that was all; else it is to be recorded the long way, by acquired_anew. */
 QUICK bool acquired_again(uintptr_t lock, uint8_t mode, enum kind kind, struct call call) {
     struct thread *t = self.thread;
-    if (RARELY(!t || self.inside_frame))
+    if (UNLIKELY(!t || self.inside_frame))
         return false;
     go_inside(call);
     bool is_done = step_on(t, lock, step_from(call.caller, mode, kind));
@@ -326,7 +396,7 @@ QUICK bool acquired_again(uintptr_t lock, uint8_t mode, enum kind kind, struct c
 
 QUICK bool released_again(uintptr_t lock, struct call call) {
     struct thread *t = self.thread;
-    if (RARELY(!t || self.inside_frame))
+    if (UNLIKELY(!t || self.inside_frame))
         return false;
     go_inside(call);
     bool is_done = step_back(t, lock);
@@ -345,9 +415,9 @@ static inline void forget_uses(struct thread *t) {
     t->used_count = 0;
 }
 
-/* ---- runs.c, and what it needs of threads.c. */
+/* ---- runs.c, and what it needs of the files that write records. */
 
-void heed_thread_end(void);
+void watch_thread_end(void);
 uint32_t run_source(void);              /* whose run this thread is in; 0: in none */
 bool is_run_of_parent(void);            /* whether that began in the process that has forked this one */
 void add_run(struct thread *t);

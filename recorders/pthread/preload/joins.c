@@ -4,7 +4,6 @@
 
 #include <errno.h>
 #include <pthread.h>
-#include <sys/syscall.h>
 #include <threads.h>
 
 #define REALS(X) X(pthread_join) X(pthread_tryjoin_np) X(pthread_timedjoin_np) X(pthread_clockjoin_np) X(thrd_create) X(thrd_join)
@@ -32,8 +31,8 @@ static void note_life(uint32_t number, enum life_kind kind, pthread_t thread, ui
 static uint32_t so_far(enum raw_kind kind) { return is_recording() ? LOAD(&arena->regions[kind].used) : 0; }
 
 /* A start comes now. */
-struct starting begin_start(void) {
-    return (struct starting){so_far(RAW_THREADS), so_far(RAW_RUNS), is_noting() ? take_part(RAW_LIVES) : 0};
+struct starting begin_start(struct call call) {
+    return (struct starting){so_far(RAW_THREADS), so_far(RAW_RUNS), is_noting() ? take_part(RAW_LIVES) : 0, put_start(call)};
 }
 
 static void note_join(pthread_t thread, uint32_t known, enum life_kind kind, int error) {
@@ -82,6 +81,8 @@ static void note_start_of_runs(pthread_t thread, uint32_t before) {
 void note_start(pthread_t thread, uintptr_t run, struct starting starting, struct call call) {
     if (starting.life)
         note_life(starting.life, LIFE_START, thread, lives_so_far());
+    if (starting.number)
+        put_numbered(STEP_STARTED, thread, starting.number, call);
     if (!is_recording() || !begin_inside(call))
         return;
     int saved = errno;
@@ -138,73 +139,52 @@ bool is_first_thread(void) { return this_thread() == first_thread; }
 
 /* Whether it can matter that this thread joins another one: it holds something, may be joined itself, or has interrupted what may hold something.
    That it was started may not be noted yet, if who started it had to wait for a processor. */
-static bool matters(void) { return is_any_held() || !is_first_thread() || run_source(); }
-
-/* ---- Whether the thread had ended. Who joins it may have known that it takes some lock no more, as after it says under that lock that it is
-   done: it is then about to end, and is waited for here so often. On its way it may take one more lock, as one of its own, if that is free and it
-   held last what is held here. Who joins it waits for that one too, and so it is taken and given back there. */
-#define LOOKS 10
-#define BETWEEN_LOOKS 100000 /* nanoseconds */
-
-static void pause_looking(void) {
-    int saved = errno;
-    const struct timespec time = {.tv_nsec = BETWEEN_LOOKS};
-    SYSTEM(nanosleep, &time, NULL);
-    errno = saved;
-}
-
-enum ending { GOES_ON, HAD_ENDED, TAKES_ONE };
-
-/* Whether it ends, and meanwhile waits for nothing and makes no more calls than that. */
-static bool ends_soon(const struct raw_thread *part, uint32_t pauses, uint64_t calls, uint64_t most) {
-    for (int i = 0; i < LOOKS && !LOAD(&part->ended) && LOAD(&part->calls) - calls <= most && LOAD(&part->pauses) == pauses; i++)
-        pause_looking();
-    return LOAD(&part->ended) && LOAD(&part->calls) - calls <= most && LOAD(&part->pauses) == pauses;
-}
-
-/* Nothing is known of a thread without a trace. */
-static enum ending look_at_end(pthread_t thread) {
-    const struct raw_thread *part = part_of_life(thread);
-    uint32_t pauses = part ? LOAD(&part->pauses) : 0;
-    uint64_t calls = part ? LOAD(&part->calls) : 0;
-    if (!part || !ends_soon(part, pauses, calls, has_passed_on(part) ? OF_ONE_LOCK : 0))
-        return GOES_ON;
-    if (part->calls == calls)
-        return HAD_ENDED;
-    return part->calls == calls + OF_ONE_LOCK && part->last && !held_object(part->last_lock) ? TAKES_ONE : GOES_ON;
-}
+static bool join_can_matter(void) { return is_any_held() || !is_first_thread() || run_source(); }
 
 /* Whether it is recorded that the thread is waited for. Nothing is, if this one has no trace and runs no handler: then it holds nothing. */
 static bool begin_join(pthread_t thread, uint8_t weak, struct call call) {
-    if (!is_recording() || !(has_trace() || run_source()) || !matters() || !enter_recorder(call))
+    if (!is_recording() || !(has_trace() || run_source()) || !join_can_matter() || !enter_recorder(call))
         return false;
     uint32_t object = object_of(thread);
-    bool is_wish = object && wish_for_end((uintptr_t)thread, object, MODE_WRITE | weak, call);
+    bool is_pending = object && begin_pending_end((uintptr_t)thread, object, MODE_WRITE | weak, call);
     end_inside();
-    return is_wish;
+    return is_pending;
 }
 
 static uint8_t mode_of_last(const struct raw_thread *part) { return part->last >> RAW_OBJECT_BITS & (uint8_t)~RAW_IN_ORDER; }
 
+/* The thread has ended, and had locks. Only a notice that it gave makes the join weak: how long the thread lives says nothing about its locks. After
+   the notice it may have taken one more lock: who joins it waits for that one too, and so it is taken and given back here. */
+static void pass_thread(pthread_t thread, const struct raw_thread *part, uint8_t weak, struct call call) {
+    bool takes_one = false, is_done = has_given_notice(part, &takes_one);
+    pass_end((uintptr_t)thread, object_of(thread), MODE_WRITE | weak | (is_done ? RAW_ENDED : 0), call);
+    if (takes_one)
+        pass_end(part->last_lock, raw_object(part->last), mode_of_last(part) | weak, call);
+}
+
+/* In the history who has joined a thread has taken it, and given it back. */
+static void put_joined(pthread_t thread, uint8_t mode, int error, struct call call) {
+    if (!error)
+        put_message_by(STEP_JOINED, mode, thread, true, call);
+}
+
 /* What was recorded while it was waited for is taken back: that the thread has locks may be known only now, and if it has none, nothing is
-   recorded. What it has released of this one's locks is looked at here, whether it was quick or not. */
-static void end_join(pthread_t thread, uint8_t weak, bool is_wish, enum ending ending, bool has_ended, struct call call) {
-    if (is_wish)
-        end_wish((uintptr_t)thread, false, call);
+   recorded. */
+static void end_join(pthread_t thread, uint8_t weak, bool is_pending, bool has_ended, struct call call) {
+    if (is_pending)
+        end_pending((uintptr_t)thread, false, call);
     if (!is_recording() || !has_ended)
         return;
     const struct raw_thread *part = part_of_life(thread);
-    bool is_told = part && LOAD(&part->count) && matters();
-    if ((is_told || has_trace()) && enter_recorder(call)) {
-        bool takes_one = false;
-        if (is_told && ending == GOES_ON && has_given_notice(part, &takes_one))
-            ending = takes_one ? TAKES_ONE : HAD_ENDED;
-        pass_end((uintptr_t)thread, is_told ? object_of(thread) : 0, MODE_WRITE | weak | (ending ? RAW_ENDED : 0), call);
-        if (is_told && ending == TAKES_ONE)
-            pass_end(part->last_lock, raw_object(part->last), mode_of_last(part) | weak, call);
+    bool is_recorded = part && LOAD(&part->count) && join_can_matter();
+    if ((is_recorded || has_trace()) && enter_recorder(call)) {
+        if (is_recorded)
+            pass_thread(thread, part, weak, call);
+        else
+            pass_end((uintptr_t)thread, 0, MODE_WRITE | weak, call);
         end_inside();
     }
-    if (!is_told)
+    if (!is_recorded)
         unused_object = known(thread, OBJECT);
     note(thread, OBJECT, 0);
 }
@@ -212,11 +192,12 @@ static void end_join(pthread_t thread, uint8_t weak, bool is_wish, enum ending e
 #define JOINING(name, weak, parameters, arguments)                                                                     \
     EXPORT int name parameters {                                                                                       \
         uint32_t known = lives_so_far();                                                                               \
-        bool is_wish = begin_join(thread, weak, HERE);                                                                 \
-        enum ending ending = is_wish ? look_at_end(thread) : GOES_ON;                                                  \
+        bool is_pending = begin_join(thread, weak, HERE);                                                              \
+        NOTE_MESSAGE(STEP_JOIN, thread, false, HERE);                                                                  \
         int answer = REAL(name) arguments;                                                                             \
         note_join(thread, known, (weak) ? LIFE_REAP : LIFE_JOIN, answer);                                              \
-        end_join(thread, weak, is_wish, ending, answer == 0, HERE);                                                    \
+        put_joined(thread, MODE_WRITE | (weak), answer, HERE);                                                         \
+        end_join(thread, weak, is_pending, answer == 0, HERE);                                                         \
         return answer;                                                                                                 \
     }
 
@@ -233,17 +214,18 @@ EXPORT int pthread_tryjoin_np(pthread_t thread, void **value) {
     uint32_t known = lives_so_far();
     int answer = REAL(pthread_tryjoin_np)(thread, value);
     note_join(thread, known, LIFE_REAP, answer);
+    put_joined(thread, MODE_TRY_WRITE, answer, HERE);
     return answer;
 }
 
 /* (glibc starts and joins the threads of C11 without calling the functions of pthreads) */
 EXPORT int thrd_create(thrd_t *thread, thrd_start_t run, void *with) {
-    if (RARELY(is_for_libraries))
+    if (UNLIKELY(is_for_libraries))
         comes_from_library(HERE);
     note_handing_on();
     if (is_recording())
         note_frames(HERE);
-    struct starting starting = begin_start();
+    struct starting starting = begin_start(HERE);
     int answer = REAL(thrd_create)(thread, run, with);
     if (answer == thrd_success) {
         forget_name(*thread);

@@ -12,7 +12,7 @@ static uint8_t mode_of_use(void) { return self.thread->source ? MODE_WRITE : MOD
 
 static void pass_allocator(struct call call) {
     uint32_t not_yet = 0;
-    if (RARELY(!LOAD(&is_named)) && SWAP(&is_named, &not_yet, 1))
+    if (UNLIKELY(!LOAD(&is_named)) && SWAP(&is_named, &not_yet, 1))
         name_lock((uintptr_t)&allocator, "libc:malloc", call);
     if (lock_object((uintptr_t)&allocator))
         pass_lock((uintptr_t)&allocator, mode_of_use(), KIND_SPIN, call);
@@ -35,7 +35,7 @@ extern char __libc_single_threaded __attribute__((weak)); /* (glibc has it since
 
 /* It is locked in a fork if there is a second thread. */
 void use_allocator_in_fork(struct call call) {
-    if (RARELY(heeds_allocator()) && &__libc_single_threaded && !__libc_single_threaded)
+    if (UNLIKELY(watches_malloc()) && &__libc_single_threaded && !__libc_single_threaded)
         use_allocator(call);
 }
 

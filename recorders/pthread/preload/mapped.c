@@ -285,7 +285,7 @@ static void end_note(int saved) {
 
 /* After locks' memory was given back, by a call that has succeeded. */
 static inline void end_holds(uintptr_t from, size_t bytes, uintptr_t caller) {
-    if (RARELY(is_any_held()))
+    if (UNLIKELY(is_any_held()))
         given_back(from, from + bytes, caller);
 }
 

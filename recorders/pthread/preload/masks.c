@@ -28,7 +28,7 @@ FIND_AT_START(REALS)
 
 static uint64_t word_of_set(const sigset_t *set) { return *(const uint64_t *)set; }
 
-#define NEVER (bit_of(SIGKILL) | bit_of(SIGSTOP))
+#define NEVER_BLOCKED (bit_of(SIGKILL) | bit_of(SIGSTOP))
 
 /* A handler that unblocks a signal may do so in code that has it blocked. */
 static void note_unblocked(uint64_t signals) {
@@ -38,7 +38,7 @@ static void note_unblocked(uint64_t signals) {
 
 void set_mask(uint64_t mask, struct call call) {
     uint64_t before = self.mask;
-    self.mask = mask & ~NEVER;
+    self.mask = mask & ~NEVER_BLOCKED;
     if (!((before ^ self.mask) & LOAD(&handled)))
         return;
     note_unblocked(before & ~self.mask);
@@ -126,7 +126,7 @@ static struct waiting begin_wait(bool is_one, uint64_t mask, struct call call) {
     w.before = self.mask;
     w.waiting_before = self.waiting_mask;
     w.level_before = self.waiting_level;
-    self.waiting_mask = mask & ~NEVER;
+    self.waiting_mask = mask & ~NEVER_BLOCKED;
     __atomic_signal_fence(__ATOMIC_SEQ_CST);
     self.waiting_level = (uint8_t)(level_of_runs() + 1);
     set_mask(mask, call);

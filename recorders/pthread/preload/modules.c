@@ -157,7 +157,7 @@ static void note_module(const struct module *new, const char *name) {
 }
 
 /* Its segments as the loader tells them. */
-static struct module module_told(const struct dl_phdr_info *info) {
+static struct module module_in(const struct dl_phdr_info *info) {
     struct module m = {.from = UINTPTR_MAX, .bias = info->dlpi_addr};
     for (int i = 0; i < info->dlpi_phnum; i++) {
         const ElfW(Phdr) *part = &info->dlpi_phdr[i];
@@ -176,9 +176,9 @@ static struct module module_told(const struct dl_phdr_info *info) {
     return m;
 }
 
-static int note_told(struct dl_phdr_info *info, size_t size, void *unused) {
+static int note_loaded(struct dl_phdr_info *info, size_t size, void *unused) {
     (void)size, (void)unused;
-    struct module m = module_told(info);
+    struct module m = module_in(info);
     if (m.from < m.to)
         note_module(&m, info->dlpi_name);
     return 0;
@@ -188,7 +188,7 @@ static int note_told(struct dl_phdr_info *info, size_t size, void *unused) {
    which that was. */
 void note_modules(void) {
     STORE(&is_started, is_started || is_for_libraries);
-    dl_iterate_phdr(note_told, NULL);
+    dl_iterate_phdr(note_loaded, NULL);
     STORE(&is_started, true);
 }
 
@@ -230,7 +230,7 @@ static unsigned long long last_added, last_removed;
 static int note_if_changed(struct dl_phdr_info *info, size_t size, void *unused) {
     if (info->dlpi_adds == last_added && info->dlpi_subs == last_removed)
         return 1;
-    return note_told(info, size, unused);
+    return note_loaded(info, size, unused);
 }
 
 static int note_counters(struct dl_phdr_info *info, size_t size, void *unused) {
@@ -246,13 +246,13 @@ static void look_for_module(uintptr_t address) {
     dl_iterate_phdr(note_counters, NULL);
 }
 
-static int is_told(struct dl_phdr_info *info, size_t size, void *module) {
+static int is_same_module(struct dl_phdr_info *info, size_t size, void *module) {
     (void)size;
-    struct module told = module_told(info);
-    return told.bias == ((const struct module *)module)->bias && told.to == ((const struct module *)module)->to;
+    struct module there = module_in(info);
+    return there.bias == ((const struct module *)module)->bias && there.to == ((const struct module *)module)->to;
 }
 
-static bool is_mapped(const struct module *m) { return dl_iterate_phdr(is_told, (void *)m) != 0; }
+static bool is_mapped(const struct module *m) { return dl_iterate_phdr(is_same_module, (void *)m) != 0; }
 
 #endif
 
@@ -289,7 +289,7 @@ struct sought {
 static int put_if_there(struct dl_phdr_info *info, size_t size, void *what) {
     (void)size;
     struct sought *sought = what;
-    struct module m = module_told(info);
+    struct module m = module_in(info);
     bool is_there = sought->address >= m.from && sought->address < m.to;
     if (is_there)
         put_text(sought->path, info->dlpi_name, RAW_PATH);
@@ -298,7 +298,7 @@ static int put_if_there(struct dl_phdr_info *info, size_t size, void *what) {
 
 static int is_there_unwinder(struct dl_phdr_info *info, size_t size, void *address) {
     (void)size;
-    struct module m = module_told(info);
+    struct module m = module_in(info);
     return (uintptr_t)address >= m.from && (uintptr_t)address < m.to && is_unwinder(info->dlpi_name);
 }
 
@@ -312,7 +312,7 @@ bool put_path_of(uintptr_t address, char *path) {
 
 const struct module *module_of(uintptr_t address) {
     const struct module *m = known_module(address);
-    if (RARELY(!m)) {
+    if (UNLIKELY(!m)) {
         look_for_module(address);
         m = known_module(address);
     }

@@ -11,7 +11,7 @@ EXPORT void *_ZnamSt11align_val_tRKSt9nothrow_t(size_t size, size_t alignment, c
 /* The real one, once found. A program that calls one has a library with all of them; if it can't be found, malloc will do. */
 static void *real_one(void **known, const char *name, void *other) {
     void *real = LOAD(known);
-    if (RARELY(!real)) {
+    if (UNLIKELY(!real)) {
         real = find_in_libraries(name);
         real = real ? real : other;
         STORE(known, real);

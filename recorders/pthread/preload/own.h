@@ -3,7 +3,7 @@
    The rules that keep a recorder out of its program's way:
    - No descriptor is kept. After a thread's start no system call is made for recording, apart from what dlopen and dlclose bring.
    - No lock is taken. What threads share is changed by single atomic operations, so a signal handler that jumps away, a fork, or
-     a thread that dies leaves nothing locked. If a jump leaves the recorder itself, the thread's next call mends its records.
+     a thread that dies leaves nothing locked. If a jump leaves the recorder itself, the thread's next call restores its records.
    - No memory is taken from malloc. The library's own is among its variables, and in one mapping that is made at the start.
    - A signal handler is recorded as a thread of its own, so it may interrupt the recorder anywhere. Without signals (runs.c) one that
      interrupts it and takes a lock is passed through and counted.
@@ -28,7 +28,7 @@
 #define FRAME ((uintptr_t)__builtin_frame_address(0))
 #define EXPORT __attribute__((visibility("default")))
 #define LIKELY(x) __builtin_expect(!!(x), 1)
-#define RARELY(x) __builtin_expect(!!(x), 0)
+#define UNLIKELY(x) __builtin_expect(!!(x), 0)
 /* Of an array that most programs don't use. It has pages of its own, so that what every program uses lies close together: the first use
    of each page is dear for a program that lives for half a millisecond. All of the library must stay below two megabytes: the system puts
    a larger one where such a page would begin, and then each signal that comes in takes 30 ns more. */
@@ -97,7 +97,7 @@ void begin_now(void);
 void begin_for_library(void);
 void say_refused(void); /* that this process isn't recorded */
 static inline void begin_once(void) {
-    if (RARELY(LOAD(&begin_state) != BEGIN_DONE))
+    if (UNLIKELY(LOAD(&begin_state) != BEGIN_DONE))
         begin_now();
 }
 uint32_t take_part(enum raw_kind kind); /* the number of a new part, or 0 */
@@ -253,8 +253,8 @@ bool is_below_end(uintptr_t lock, struct call call);
 
 /* ---- heap.c */
 
-void heed_allocator(void); /* its calls are to be recorded as those of a lock */
-bool heeds_allocator(void);
+void watch_malloc(void); /* its calls are to be recorded as those of a lock */
+bool watches_malloc(void);
 bool has_ended(uint64_t mark); /* the piece that was marked so */
 void note_piece(void *piece, size_t size, uint64_t element, struct call call);
 void drop_piece(uintptr_t address, size_t size);
@@ -378,54 +378,75 @@ enum kind {
     KIND_MUTEX,
     KIND_RWLOCK,
     KIND_SPIN,
-    KIND_RECURSIVE, /* it is the same hold, once more */
+    KIND_RECURSIVE, /* it is the same hold, once more (up to here what a thread takes and releases by calls of its own) */
     KIND_COUNTED,   /* each time is a hold of its own */
     KIND_THREAD,    /* the same, of a thread that ends */
     KIND_ONCE,      /* as a recursive one, of a routine that runs once: it doesn't know who runs it */
+    KIND_LOADER,    /* as a recursive one, which the loader releases without a word */
 };
+
+void note_own_lock(uintptr_t lock);
+void begin_threads(void);
+void look_at_inherited(struct call call);
+
+/* ---- inside.c */
 
 bool begin_inside(struct call call);
 void end_inside(void);
 bool is_inside(void);
 bool is_recording(void);
-void acquired(uintptr_t lock, uint8_t mode, enum kind kind, struct call call);
-void acquired_anew(uintptr_t lock, uint8_t mode, enum kind kind, struct call call); /* without looking up whether it repeats */
-bool begin_wish(uintptr_t lock, uint8_t mode, enum kind kind, struct call call);
-bool end_wish(uintptr_t lock, bool is_taken, struct call call);
-bool wish_for_end(uintptr_t thread, uint32_t object, uint8_t mode, struct call call); /* inside the recorder; end_wish is to follow */
-void pass_end(uintptr_t thread, uint32_t object, uint8_t mode, struct call call); /* inside the recorder */
-bool has_trace(void);
-void note_pause(void); /* this thread begins to wait for something, or doesn't wait for it any more */
-bool has_passed_on(const struct raw_thread *raw); /* a thread holds nothing, and has held last what this one holds now */
-void pass_lock(uintptr_t lock, uint8_t mode, enum kind kind, struct call call); /* inside the recorder: it is taken and given back */
-void note_handing_on(void); /* by what isn't seen otherwise: what this thread has made isn't new any more */
-void releasing(uintptr_t lock, struct call call);
-bool releasing_own(uintptr_t lock, struct call call);
-void released_unseen(uintptr_t lock, struct call call);
-void leave_out(uintptr_t semaphore, struct call call);
-void initialised(uintptr_t lock, struct call call);
-void destroyed(uintptr_t lock, struct call call);
-void given_back(uintptr_t from, uintptr_t to, uintptr_t caller);
-void look_at_inherited(struct call call);
-void end_own_wishes(struct call call);
-void note_waits_at_exit(void);
-void tried(uintptr_t lock, bool has_failed, struct call call);
-bool is_held_once(uintptr_t lock);
-bool is_any_held(void);
-void turned(struct call call); /* a signal was blocked or unblocked, or has got or lost its handler */
-void note_own_lock(uintptr_t lock);
-void enter_loader(uintptr_t loader, uintptr_t function, struct call call);
-void change_era(void);
-void begin_threads(void);
 bool enter_recorder(struct call call); /* if so, end_inside is to follow */
-bool may_hold(uintptr_t lock);
+
+/* ---- records.c */
+
 struct held_lock {
     uintptr_t lock;
     uint32_t object, place;
 };
 bool nth_held(uint32_t n, struct held_lock *held); /* of this thread, the newest first */
-void end_own_holds(uintptr_t from, uintptr_t to, struct call call); /* inside the recorder */
 uint32_t held_object(uintptr_t lock); /* as which this thread holds it; 0 if it doesn't */
+bool is_held_once(uintptr_t lock);
+bool is_any_held(void);
+bool may_hold(uintptr_t lock);
+bool has_trace(void);
+
+/* ---- state_records.c */
+
+void turned(struct call call); /* a signal was blocked or unblocked, or has got or lost its handler */
+
+/* ---- releases.c */
+
+void note_handing_on(void); /* by what isn't seen otherwise: what this thread has made isn't new any more */
+void releasing(uintptr_t lock, struct call call);
+bool releasing_own(uintptr_t lock, struct call call);
+void released_unseen(uintptr_t lock, struct call call);
+void leave_out(uintptr_t semaphore, struct call call);
+void change_era(void);
+
+/* ---- acquisitions.c */
+
+void acquired(uintptr_t lock, uint8_t mode, enum kind kind, struct call call);
+void acquired_anew(uintptr_t lock, uint8_t mode, enum kind kind, struct call call); /* without looking up whether it repeats */
+void tried(uintptr_t lock, bool has_failed, struct call call);
+void enter_loader(uintptr_t loader, uintptr_t function, struct call call);
+
+/* ---- pending.c */
+
+bool begin_pending(uintptr_t lock, uint8_t mode, enum kind kind, struct call call);
+bool end_pending(uintptr_t lock, bool is_taken, struct call call);
+bool begin_pending_end(uintptr_t thread, uint32_t object, uint8_t mode, struct call call); /* inside the recorder; end_pending is to follow */
+void pass_end(uintptr_t thread, uint32_t object, uint8_t mode, struct call call); /* inside the recorder */
+void pass_lock(uintptr_t lock, uint8_t mode, enum kind kind, struct call call); /* inside the recorder: it is taken and given back */
+void end_own_pending(struct call call);
+void note_pause(void); /* this thread begins to wait for something, or doesn't wait for it any more */
+void note_waits_at_exit(void);
+
+/* ---- new_locks.c */
+
+void initialised(uintptr_t lock, struct call call);
+void destroyed(uintptr_t lock, struct call call);
+void given_back(uintptr_t from, uintptr_t to, uintptr_t caller);
+void end_own_holds(uintptr_t from, uintptr_t to, struct call call); /* inside the recorder */
 
 /* ---- states.c */
 
@@ -506,10 +527,10 @@ bool has_given_notice(const struct raw_thread *raw, bool *takes_one);
 
 /* What there was when a thread was about to be started: so many traces, and runs of sources in threads; and the number of the start, or 0. */
 struct starting {
-    uint32_t traces, runs, life;
+    uint32_t traces, runs, life, number; /* the last one of the history */
 };
 uint32_t start_of_this_thread(void);
-struct starting begin_start(void);
+struct starting begin_start(struct call call);
 void note_start(pthread_t thread, uintptr_t run, struct starting starting, struct call call);
 void note_trace(struct raw_thread *part, uint32_t number);
 void note_run(struct raw_run *run); /* whose process is known */

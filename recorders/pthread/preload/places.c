@@ -403,7 +403,7 @@ static inline uint64_t *first_word(uint64_t key) { return &calls[(key >> 40) % C
 /* What tells the calls of a piece of memory; 0 if that isn't known at once. */
 uint64_t key_of_call(struct call call, size_t size, uint64_t element) {
     struct few few;
-    if (LIKELY(!are_most_memos()) || RARELY(!quick_callers(call, stack_above(call), &few)))
+    if (LIKELY(!are_most_memos()) || UNLIKELY(!quick_callers(call, stack_above(call), &few)))
         return 0;
     return key_of_few(&few, salt_of(element, is_tiny(size))) & ~ABOUT_CALL;
 }
@@ -411,7 +411,7 @@ uint64_t key_of_call(struct call call, size_t size, uint64_t element) {
 /* The place of the pieces of a plain call; else 0. */
 uint32_t place_of_plain(uint64_t key) {
     uint64_t *first = first_word(key), word = __atomic_load_n(first, __ATOMIC_RELAXED);
-    if (RARELY(!is_call(word, key)))
+    if (UNLIKELY(!is_call(word, key)))
         word = __atomic_load_n(other_word(first), __ATOMIC_RELAXED);
     return LIKELY((word & ~PLACE_MASK) == (key | IS_PLAIN)) ? word & PLACE_MASK : 0;
 }

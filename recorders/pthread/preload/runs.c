@@ -40,7 +40,7 @@ static struct runs *unused_runs(void) {
 __attribute__((noinline)) static struct runs *make_runs(void) {
     self.runs = unused_runs();
     if (self.runs)
-        heed_thread_end();
+        watch_thread_end();
     return self.runs;
 }
 
@@ -104,7 +104,7 @@ bool is_held_below(uintptr_t lock) {
 
 void leave_lock(const struct held *h) {
     struct runs *r = self.runs;
-    if (!r || !r->depth || r->left_count == MOST_LEFT || h->is_wish)
+    if (!r || !r->depth || r->left_count == MOST_LEFT || h->is_pending)
         return;
     uint32_t mode = raw_mode(h->what[BY_OBJECTS]);
     r->left[r->left_count++] = (struct left){h->lock, raw_object(h->what[BY_OBJECTS]), r->depth - 1,
@@ -191,9 +191,11 @@ __attribute__((noinline)) static void end_thread_of_run(struct call call) { end_
 QUICK void end_newest(struct runs *r, struct call call) {
     struct interrupted *i = &r->interrupted[r->depth - 1];
     if (LIKELY(i->frame && !i->is_continuation)) {
-        if (RARELY(self.thread))
+        if (UNLIKELY(self.thread))
             end_thread_of_run(call);
         self.current = i->current;
+        if (UNLIKELY(i->current.inside_frame))
+            forget_epoch();
     }
     i->frame = 0;
     i->current.thread = NULL;
@@ -239,7 +241,7 @@ __attribute__((noinline)) static void begin_with_other_mask(struct run *r, struc
     r->was_unknown = !self.is_mask_known;
     r->is_at_edge = (r->was_unknown || self.mask != mask_of(r)) && !r->was_waiting && is_at_edge(r, call);
     bool is_unknown = (self.mask ^ mask_of(r)) & LOAD(&handled) && self.is_mask_known && !r->was_waiting && !r->is_at_edge;
-    if (RARELY(is_unknown) && !self.is_changing_mask)
+    if (UNLIKELY(is_unknown) && !self.is_changing_mask)
         ADD(&arena->unknown_masks, 1);
     self.mask = r->was_waiting ? self.waiting_mask : mask_of(r);
     self.is_mask_known = true;
@@ -247,7 +249,7 @@ __attribute__((noinline)) static void begin_with_other_mask(struct run *r, struc
 
 QUICK void begin_mask(struct run *r, const struct action *a, struct call call) {
     r->known_mask = self.mask;
-    if (RARELY(r->known_mask != mask_of(r) || !self.is_mask_known || r->was_waiting))
+    if (UNLIKELY(r->known_mask != mask_of(r) || !self.is_mask_known || r->was_waiting))
         begin_with_other_mask(r, call);
     self.mask |= a->blocks;
 }
@@ -281,6 +283,8 @@ QUICK void keep(struct interrupted *i, uint32_t source, bool is_on_own, struct c
     i->frame = call.frame;
     __atomic_signal_fence(__ATOMIC_SEQ_CST);
     self.current = (struct current){.thread = NULL};
+    if (UNLIKELY(i->current.inside_frame))
+        forget_chunk();
 }
 
 /* One that goes on with what it has interrupted. */
@@ -314,13 +318,13 @@ __attribute__((noinline)) static void go_on_as(struct thread *t) {
 
 QUICK void begin_run(struct run *r, const struct action *a, const siginfo_t *info, struct call call) {
     struct runs *all = LIKELY(self.runs) ? self.runs : make_runs();
-    if (RARELY(!all))
+    if (UNLIKELY(!all))
         return;
     bool is_on_own = is_on_own_stack(call.frame, &r->context->uc_stack);
-    if (RARELY(all->depth | self.waiting_level | a->is_odd) && !begin_odd_run(r, a, info, is_on_own, call))
+    if (UNLIKELY(all->depth | self.waiting_level | a->is_odd) && !begin_odd_run(r, a, info, is_on_own, call))
         return;
     r->level = all->depth;
-    if (RARELY(r->is_continuation)) {
+    if (UNLIKELY(r->is_continuation)) {
         keep_call(r, a, is_on_own, call);
         return;
     }
@@ -328,8 +332,8 @@ QUICK void begin_run(struct run *r, const struct action *a, const siginfo_t *inf
     keep(&all->interrupted[r->level], a->source, is_on_own, call);
     begin_mask(r, a, call);
     count_run(all, a->number, a->source, info);
-    struct thread *t = RARELY(all->threads) ? idle_run(all, a->source) : NULL;
-    if (RARELY(t))
+    struct thread *t = UNLIKELY(all->threads) ? idle_run(all, a->source) : NULL;
+    if (UNLIKELY(t))
         go_on_as(t);
 }
 
@@ -347,12 +351,12 @@ QUICK void end_this_run(struct run *r, struct call call) {
     while (r->is_begun && all && all->depth > r->level)
         end_newest(all, call);
     if (r->has_returned)
-        self.mask = RARELY(r->is_at_edge) ? r->known_mask : mask_of(r);
-    if (RARELY(r->is_at_edge & r->has_returned & r->was_unknown))
+        self.mask = UNLIKELY(r->is_at_edge) ? r->known_mask : mask_of(r);
+    if (UNLIKELY(r->is_at_edge & r->has_returned & r->was_unknown))
         self.is_mask_known = false;
-    if (RARELY(r->was_waiting))
+    if (UNLIKELY(r->was_waiting))
         self.waiting_level = 0;
-    if (RARELY(is_changed || self.mask != r->known_mask))
+    if (UNLIKELY(is_changed || self.mask != r->known_mask))
         look_at_state_after_run(r->has_returned);
 }
 

@@ -26,7 +26,7 @@ static inline uint64_t *nth_short(uint64_t *area, uintptr_t address) {
 
 /* The word of an address at which a piece may begin, if it was made. */
 static inline uint64_t *short_word(uintptr_t address) {
-    if (!LOAD(&are_short_apart) || RARELY(address >> ADDRESS_BITS || address & ((1 << GRAIN_BITS) - 1)))
+    if (!LOAD(&are_short_apart) || UNLIKELY(address >> ADDRESS_BITS || address & ((1 << GRAIN_BITS) - 1)))
         return NULL;
     uint64_t **areas = LOAD(&fields_of_areas[address >> FIELD_OF_AREAS_BITS]);
     return areas ? nth_short(LOAD(&areas[address >> AREA_BITS & (AREAS - 1)]), address) : NULL;

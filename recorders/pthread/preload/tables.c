@@ -102,7 +102,7 @@ static uint64_t *lock_level(int level, bool make) {
 /* (The lines of a block's parts differ in what isn't known by the line.) */
 static uint64_t *lock_line(uint64_t *slots, int level, uintptr_t lock) {
     uint64_t line = block_line(lock >> BLOCK_BITS & BLOCK_MASK, lock_bits[level]);
-    if (RARELY(level == SPREAD))
+    if (UNLIKELY(level == SPREAD))
         line = (line + (own_way(lock) << FEWEST_BITS)) & ((UINT64_C(1) << lock_bits[level]) - 1);
     return &slots[line * LOCK_WAYS];
 }
@@ -255,7 +255,7 @@ static void empty_slot(uint64_t *slot, uint64_t key) {
 static inline void drop_in_line(uint64_t *line, uint64_t key) {
     UNROLLED
     for (int i = 0; i < LOCK_WAYS; i++)
-        if (RARELY(is_of(__atomic_load_n(&line[i], __ATOMIC_RELAXED), key)))
+        if (UNLIKELY(is_of(__atomic_load_n(&line[i], __ATOMIC_RELAXED), key)))
             empty_slot(&line[i], key);
 }
 
@@ -269,7 +269,7 @@ void drop_lock(uintptr_t lock) {
 }
 
 void end_lock(uintptr_t lock) {
-    if (RARELY(is_anything_said))
+    if (UNLIKELY(is_anything_said))
         forget_words(lock);
     drop_lock(lock);
 }

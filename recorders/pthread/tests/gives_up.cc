@@ -1,5 +1,6 @@
 // A lock that is held from start to end, by which another thread is told to end: that one waits for it for a time only, again and again. With
 // `once` a third thread waits without one, later; with `exits` the process ends meanwhile.
+#include <atomic>
 #include <chrono>
 #include <cstring>
 #include <mutex>
@@ -8,11 +9,12 @@
 
 static std::timed_mutex quit;
 static std::mutex state;
+static std::atomic<int> times; // that it has given up
 
 static void timer() {
     std::lock_guard<std::mutex> guard(state);
     while (!quit.try_lock_for(std::chrono::milliseconds(5)))
-        continue;
+        times++;
     quit.unlock();
 }
 
@@ -26,7 +28,8 @@ int main(int argc, char **argv) {
     quit.lock();
     { std::lock_guard<std::mutex> guard(state); }
     std::thread thread(timer);
-    std::this_thread::sleep_for(std::chrono::milliseconds(30));
+    while (times < 2)
+        std::this_thread::sleep_for(std::chrono::milliseconds(1));
     if (std::strcmp(way, "exits") == 0)
         _exit(0);
     quit.unlock();

@@ -1,7 +1,7 @@
 /* Threads that are joined, in ways that differ by what is held meanwhile:
      held     the lock that the thread takes, which goes on until it is waited for: a cycle
      made     the same, and the lock is initialised by a call
-     ended    as held, but the thread ends at once, and is joined only then
+     ended    as held, but the thread ends at once, and is joined only then: that takes nothing from the order
      says     the thread says under the lock that it is done, and who joins it with the lock held waits for that
      exits    the same, and then it ends by pthread_exit, when it is waited for
      cleans   the same, but then it takes a lock of its own, when it is waited for
@@ -186,7 +186,7 @@ static void join_under(pthread_mutex_t *lock, pthread_t thread) {
     pthread_mutex_unlock(lock);
 }
 
-/* Interrupts the joiner as it looks whether the thread ends, which goes on only when that has ended: so it ends soon on a busy machine too. */
+/* Interrupts the joiner as it waits for the thread, and lets the thread go on: so the thread ends while it is waited for, on a busy machine too. */
 static void stay(int unused) {
     (void)unused;
     set(&is_joined, 1);
@@ -203,8 +203,8 @@ static void stay_soon(void) {
 static void join_finisher(void) {
     pthread_mutex_t *held = is("works") ? &state : &log_lock;
     pthread_t thread;
+    pthread_mutex_lock(&log_lock); /* (before it starts, so that it is waited for what it says) */
     pthread_create(&thread, NULL, finisher, NULL);
-    pthread_mutex_lock(&log_lock);
     while (!is_done)
         pthread_cond_wait(&has_said, &log_lock);
     if (is("works")) {

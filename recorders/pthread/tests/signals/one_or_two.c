@@ -15,7 +15,8 @@ static void on_usr2(int s) {
     if (is("unblocks")) unblock(SIGUSR1);
     if (!is("nests")) with(second);
 }
-static void *waits(void *x) { if (!is("late")) usleep(100000); return x; }
+static volatile sig_atomic_t have_come;
+static void *waits(void *x) { while (!have_come) usleep(1000); return x; }
 static void start(pthread_t *t) { pthread_create(t, NULL, waits, NULL); }
 static void both(void) { kill(getpid(), SIGUSR1); kill(getpid(), SIGUSR2); }
 static void in_order(void) {
@@ -45,6 +46,7 @@ int main(int count, char **words) {
     if (is("unblocks")) unblocked_inside();
     if (is("child") && fork() == 0) { both(); _exit(0); }
     both();
+    have_come = 1;
     if (is("child")) wait(NULL);
     if (is("late")) start(&t);
     if (is("thread") || is("late")) pthread_join(t, NULL);

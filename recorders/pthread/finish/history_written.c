@@ -1,0 +1,117 @@
+/* The file of a history, and the places of its records. */
+#include "history.h"
+
+#include <string.h>
+
+void add_line(struct history *h, enum verb verb, const struct task *task, uint32_t about, uint8_t mode, uint32_t place) {
+    struct line new = {number_of_task(&h->threads, task), about, place, (uint8_t)verb, mode};
+    PUSH(h->lines, h->line_count, new);
+}
+
+uint32_t give(struct history *h, const struct task *task, uint32_t place) {
+    struct message new = {.at = h->nth};
+    PUSH(h->messages, h->message_count, new);
+    add_line(h, WRITES_GIVE, task, (uint32_t)h->message_count, 0, place);
+    return (uint32_t)h->message_count;
+}
+
+void get(struct history *h, const struct task *task, uint32_t message, uint32_t place) {
+    if (!message)
+        return;
+    h->messages[message - 1].number = 1;
+    add_line(h, WRITES_GET, task, message, 0, place);
+}
+
+/* ---- What isn't written. */
+
+static bool is_of_lock(const struct line *line) { return line->verb <= WRITES_RELEASE; }
+
+static bool is_written(const struct history *h, const struct line *line) {
+    return is_of_lock(line) ? !h->locks.locks[line->about - 1].fault : h->messages[line->about - 1].number != 0;
+}
+
+static void number_messages(struct history *h) {
+    uint32_t number = 0;
+    for (size_t i = 0; i < h->line_count; i++)
+        if (h->lines[i].verb == WRITES_GIVE && is_written(h, &h->lines[i]))
+            h->messages[h->lines[i].about - 1].number = ++number;
+}
+
+/* ---- A record. */
+
+static const char *const verbs[] = {",take,", ",again,", ",release,", ",give,", ",get,"};
+
+static void write_mode(FILE *file, uint8_t mode) {
+    static const char *const modes[] = {"w", "r", "rr"};
+    enum mode plain = raw_plain(mode);
+    bool is_try = plain >= MODE_TRY_WRITE;
+    fputs(is_try ? ",t" : mode & RAW_TIMED ? ",l" : ",", file);
+    fputs(modes[plain % MODE_TRY_WRITE], file);
+}
+
+static void write_record(FILE *file, const struct history *h, const struct line *line) {
+    fputs(h->threads.tasks[line->task - 1].name, file);
+    fputs(verbs[line->verb], file);
+    if (is_of_lock(line))
+        write_name(file, h->locks.locks[line->about - 1].name);
+    else
+        fprintf(file, "%u", h->messages[line->about - 1].number);
+    if (line->verb == WRITES_TAKE)
+        write_mode(file, line->mode);
+    putc('\n', file);
+}
+
+/* ---- The file. */
+
+static void write_kinds(FILE *file, FILE *places, const struct history *h) {
+    for (size_t i = 0; i < h->locks.count; i++) {
+        const struct lock *lock = &h->locks.locks[i];
+        if (!lock->is_used || lock->fault || lock->kind == LOCK_PLAIN)
+            continue;
+        fputs(lock->kind == LOCK_THREAD ? "thread," : "once,", file);
+        write_name(file, lock->name);
+        putc('\n', file);
+        write_place(places, NULL);
+    }
+}
+
+static void write_lines(FILE *file, FILE *places, struct history *h) {
+    for (size_t i = 0; i < h->line_count; i++) {
+        if (!is_written(h, &h->lines[i]))
+            continue;
+        write_record(file, h, &h->lines[i]);
+        write_place(places, place_numbered(h->arena, h->lines[i].place));
+    }
+}
+
+/* The locks that are left out: NAME REASON. */
+static void write_left_out(const char *path, const struct history *h) {
+    static const char *const reasons[] = {[FAULT_TAKEN_BY_ANOTHER] = "taken-by-another", [FAULT_NOT_HELD] = "not-held"};
+    FILE *file = NULL;
+    for (size_t i = 0; i < h->locks.count; i++) {
+        const struct lock *lock = &h->locks.locks[i];
+        if (!lock->is_used || !lock->fault)
+            continue;
+        file = file ? file : created(path);
+        fprintf(file, "%s %s\n", lock->name, reasons[lock->fault]);
+    }
+    if (file)
+        closed(file, path);
+}
+
+void write_history(const char *folder, struct history *h, uint32_t number) {
+    char path[4400], places_path[4500], left_out[4500];
+    snprintf(path, sizeof path, "%s/history/process-%04u.csv", folder, number);
+    snprintf(places_path, sizeof places_path, "%s.places", path);
+    snprintf(left_out, sizeof left_out, "%s/history/process-%04u.left-out", folder, number);
+    FILE *file = created(path), *places = created(places_path);
+    number_messages(h);
+    fputs("history,1\n", file);
+    begin_places(places);
+    write_place(places, NULL);
+    write_kinds(file, places, h);
+    write_lines(file, places, h);
+    closed(file, path);
+    closed(places, places_path);
+    write_left_out(left_out, h);
+}
