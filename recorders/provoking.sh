@@ -11,10 +11,9 @@ waits() {
     awk '/^  thread / { getline; sub(/^ *waits  /, ""); sub(/\([A-Z].*\)/, ""); print }' said | sort | tr '\n' '|'
 }
 
-# The place of a text in a source of tests/provoke, the nth one: place SOURCE TEXT NTH.
-place() {
-    echo "$1:$(grep -nF -- "$2" "$here/tests/provoke/$1" | sed -n "$3s/:.*//p")"
-}
+# Where `place` looks for a source.
+# shellcheck disable=SC2034,SC2154
+sources=$here/tests/provoke
 
 # A program stands still with its first finding, in which its threads wait at these places: happens NAME PLACES COMMAND... `trying` may have options.
 happens() {

@@ -58,6 +58,14 @@ def processes_of(process):
     return [process] + [each for child in children for each in processes_of(int(child))]
 
 
+def has_ended(process):
+    """Whether a process has ended: one that nobody has asked about since has no memory."""
+    try:
+        return not contents("/proc/%d/maps" % process)
+    except OSError:
+        return True
+
+
 def sleeps_of(processes):
     """How often each thread of processes has gone to sleep. None if one of them runs."""
     sleeps = {}
@@ -106,6 +114,18 @@ class Run:
 def contents(path):
     with open(path, encoding="utf-8") as file:
         return file.read()
+
+
+def placed(wanted, source):
+    """Expected text in which `{TEXT}` stands for the number of the line of a source that has TEXT, and `{TEXT#2}` for that of the second such line:
+    an edit of a test's program moves no expected value."""
+    lines = contents(source).split("\n")
+
+    def number_of(found):
+        text, nth = re.fullmatch(r"(.*?)(?:#(\d+))?", found.group(1)).groups()
+        numbers = [number for number, line in enumerate(lines, 1) if text in line]
+        return str(numbers[int(nth or 1) - 1]) if len(numbers) >= int(nth or 1) else "nowhere"
+    return re.sub(r"\{([^{}]+)\}", number_of, wanted)
 
 
 def task_names(folder):

@@ -1,20 +1,15 @@
 package sync
 
-// ---- The recorder of lockdep: which lock is taken with which others held. This text is added to the end of mutex.go, where the
-// methods Lock, TryLock and Unlock are renamed to rawLock, rawTryLock and rawUnlock, as those of RWMutex are in rwmutex.go.
+// ---- The recorder of lockdep: which lock is taken with which others held. This text is added to the end of mutex.go, with
+// sync_classes.go, sync_states.go and sync_calls.go. There the methods Lock, TryLock and Unlock are renamed to rawLock, rawTryLock and
+// rawUnlock, as those of RWMutex are in rwmutex.go.
 //
 // A goroutine is a task. What it holds is a state, which has a number; each state that is new is written at once, by the first two
 // goroutines that are in it, as acquisitions of all that is held and their releases. So a state that was met before costs a look at a
 // few words, there are few files, and nothing is lost by a signal, os.Exit, a panic or a hang. The record comes before the wait.
 //
-// The files are in LOCKDEP_TRACES/raw:
-//
-//   - TIME-PID-counts is a page of counts, 64 bytes for each processor: operations, and what was left out;
-//   - TIME-PID-classes has the number 0 and where Go's own sources are, and a line for each class: its number, and after tabs the
-//     name of its type and member, or of the global; where it is made, `FUNCTION:LINE`; and `FILE:LINE` of that;
-//   - TIME-PID-starts has a line for each program that the process starts: 1 or 0, whether it is told where the recording is, and its name;
-//   - TIME-PID-NUMBER has the records of a goroutine: `N NAME` first, then `A CLASS LOCK MODE` for an acquisition, followed by
-//     `P FILE:LINE FUNCTION` for each caller, and `R CLASS LOCK` for a release. LOCK is 0 for those that aren't told apart.
+// The files are in LOCKDEP_TRACES/raw, in the form of recorders/log.md: TIME-PID has the process, its classes and what it starts, TIME-PID-page
+// is a page of counts, 64 bytes for each processor, and TIME-PID-NUMBER has the records of a goroutine.
 
 // The text by which `lockdep run` recognises a program that has this recorder. At its end is the variable that says where the recording goes.
 var ldSign = "lockdep recorder of Go for LOCKDEP_TRACES"
@@ -22,19 +17,19 @@ var ldSign = "lockdep recorder of Go for LOCKDEP_TRACES"
 const ldVariable = "LOCKDEP_TRACES"
 
 const (
-	ldMostHeld    = 48       // locks that a task can hold, by the format
-	ldMostAlone   = 8        // locks of a class that are told apart whatever happens to them
-	ldMostApart   = 32       // those that are told apart if others are held too
-	ldMostStates  = 200000   // beyond it, locks of a class aren't told apart any more
-	ldMostFiles   = 2000     // goroutines with a file of their own; others share these
-	ldMostClasses = 8000     // names that traces may have together
-	ldMostBytes   = 12 << 20 // of a file, which keeps its trace below 1,000,000 records
-	ldKnownSteps  = 16       // steps that a task keeps
-	ldFrames      = 6        // callers of an acquisition, as in package runtime
-	ldFirstLocks  = 1024     // slots of the table of locks at first
-	ldCountBytes  = 4096     // of the page of counts
-	ldCountRow    = 8        // counts of a processor
-	ldTakerFrames = 32       // callers that are looked through for who takes a lock
+	ldMostHeld    = 48     // locks that a task can hold, by the format
+	ldMostAlone   = 8      // locks of a class that are told apart whatever happens to them
+	ldMostApart   = 32     // those that are told apart if others are held too
+	ldMostStates  = 200000 // beyond it, locks of a class aren't told apart any more
+	ldMostFiles   = 2000   // goroutines with a file of their own; others share these
+	ldMostClasses = 8000   // names that traces may have together
+	ldMostRecords = 999800 // of a file, so that one more state has room in a trace
+	ldKnownSteps  = 16     // steps that a task keeps
+	ldFrames      = 6      // callers of an acquisition, as in package runtime
+	ldFirstLocks  = 1024   // slots of the table of locks at first
+	ldCountBytes  = 4096   // of the page of counts
+	ldCountRow    = 8      // counts of a processor
+	ldTakerFrames = 32     // callers that are looked through for who takes a lock
 	ldPathRoom    = 256
 	ldDecimal     = 10
 )
@@ -49,14 +44,16 @@ const (
 	ldFullTraces
 )
 
-const (
-	ldWriter = iota
-	ldReader
-	ldTriedWriter
-	ldTriedReader
-)
+const ldCountNames = "operations beyond-held unseen-releases unwritten beyond-classes full-traces"
 
-var ldModes = [...]string{"w", "r", "tw", "tr"}
+// The modes, as the files have them.
+const (
+	ldWriter      = 0
+	ldTriedWriter = 1
+	ldReleased    = 2
+	ldReader      = 3
+	ldTriedReader = 4
+)
 
 type ldCallers [ldFrames]uintptr
 
@@ -124,6 +121,7 @@ type ldTable struct {
 // The number 0 of a class is that of all its locks that aren't told apart.
 type ldKey struct {
 	class, ordinal uint32
+	isTold         bool
 }
 
 type ldClass struct {
@@ -147,8 +145,8 @@ type ldMade struct {
 }
 
 type ldFile struct {
-	number uint32
-	bytes  int
+	number  uint32
+	records int
 }
 
 type ldPlace struct {
@@ -169,6 +167,7 @@ var (
 	ldByText  map[string]uint32
 	ldStates  []ldState
 	ldSteps   map[ldStepKey]uint32
+	ldPlaces  map[ldCallers]uint32
 	ldFiles   []*ldFile
 	ldStarted map[string]bool
 	ldText    []byte
@@ -190,10 +189,10 @@ func ldTypeOf(pointer any) unsafe.Pointer {
 func ldStart(folder string) {
 	ldPrefix = append(ldPrefix, folder...)
 	ldPrefix = append(ldPrefix, "/raw/"...)
-	clock := ldDigits(uint64(lockdep_clock()))
+	clock, pid := ldDigits(uint64(lockdep_clock())), ldDigits(uint64(lockdep_pid()))
 	ldPrefix = append(ldPrefix, "0000000000000000000"[:19-len(clock)]...)
-	ldPrefix = append(append(append(ldPrefix, clock...), '-'), ldDigits(uint64(lockdep_pid()))...)
-	page := lockdep_page(ldPath("-counts"), ldCountBytes)
+	ldPrefix = append(append(append(ldPrefix, clock...), '-'), pid...)
+	page := lockdep_page(ldPath("-page"), ldCountBytes)
 	if page == nil {
 		return
 	}
@@ -201,9 +200,9 @@ func ldStart(folder string) {
 	ldLocks = unsafe.Pointer(&ldTable{mask: ldFirstLocks - 1, slots: make([]unsafe.Pointer, ldFirstLocks)})
 	ldKeys, ldStates, ldClasses = make([]ldKey, 1), make([]ldState, 1), make([]ldClass, 1)
 	ldByMade, ldByText = map[ldMade]uint32{}, map[string]uint32{}
-	ldSteps = map[ldStepKey]uint32{}
+	ldSteps, ldPlaces = map[ldStepKey]uint32{}, map[ldCallers]uint32{}
 	ldStarted = map[string]bool{}
-	ldWrite("-classes", "0\t"+runtime.GOROOT()+"\t\t\n")
+	ldWrite("process " + pid + " " + clock + "\nQ " + ldCountNames + "\nZ " + runtime.GOROOT() + "\n")
 	ldOn = true
 }
 
@@ -337,322 +336,6 @@ func ldGrow() {
 		}
 	}
 	atomic.StorePointer(&ldLocks, unsafe.Pointer(larger))
-}
-
-// ---- Classes and keys.
-
-// The number of a lock's class; 0 if there is no room for one more.
-func ldClassOf(address uintptr, made uint64, offset uintptr) uint32 {
-	by := ldMade{site: uint32(made >> 32), place: address}
-	if made != 0 {
-		by.place = lockdep_element(by.site, offset)
-	}
-	class, isKnown := ldByMade[by]
-	if !isKnown {
-		class = ldNewClass(by)
-		ldByMade[by] = class
-	}
-	return class
-}
-
-// Writes a class, unless one that says the same is there.
-func ldNewClass(by ldMade) uint32 {
-	var name, before string
-	var made []ldPlace
-	if by.site != 0 {
-		var callers ldCallers
-		name = lockdep_describe(by.site, by.place, &callers)
-		if made = ldOutside(callers[:]); name == "" && by.place != 0 {
-			before = "+" + ldDigits(uint64(by.place))
-		}
-	} else if name = ldNameAt(by.place); name == ldNotLocked {
-		return 0
-	} else if name == "" {
-		made, before = ldTaker(by.place)
-	}
-	line := name + "\t"
-	if len(made) > 0 {
-		line += ldBase(made[0].function) + before + ldAfterColon(made[0].text) + "\t" + made[0].text
-	} else {
-		line += "\t"
-	}
-	if class, isKnown := ldByText[line]; isKnown {
-		return class
-	}
-	if len(ldClasses) > ldMostClasses {
-		ldCount(ldBeyondClasses)
-		return 0
-	}
-	class := uint32(len(ldClasses))
-	ldByText[line] = class
-	ldClasses = append(ldClasses, ldClass{rest: uint32(len(ldKeys))})
-	ldKeys = append(ldKeys, ldKey{class: class})
-	ldWrite("-classes", ldDigits(uint64(class))+"\t"+line+"\n")
-	return class
-}
-
-// A mutex of package syscall under which it is looked whether a lock is held: two goroutines never wait for one another by it, although they take
-// both in both orders. It isn't recorded.
-const ldNotLocked = "syscall.forkingLock"
-
-// What a global is called by its symbol; empty if that isn't known.
-func ldNameAt(address uintptr) string {
-	if lockdep_globals(address) == 0 {
-		return ""
-	}
-	name, offset := lockdep_symbol(address, uintptr(unsafe.Pointer(&ldCounts)), "sync.ldCounts")
-	if name != "" && offset != 0 {
-		name += "+" + ldDigits(uint64(offset))
-	}
-	return name
-}
-
-// Who takes a lock first that nothing else is known of. If it is a global, its place among them tells it from others.
-func ldTaker(address uintptr) (taker []ldPlace, before string) {
-	var callers [ldTakerFrames]uintptr
-	n := runtime.Callers(1, callers[:])
-	if globals := lockdep_globals(address); globals != 0 {
-		before = "+" + ldDigits(uint64(address-globals))
-	}
-	return ldOutside(callers[:n]), before
-}
-
-// The part of a path behind its last slash.
-func ldBase(path string) string {
-	for at := len(path) - 1; at >= 0; at-- {
-		if path[at] == '/' {
-			return path[at+1:]
-		}
-	}
-	return path
-}
-
-func ldAfterColon(place string) string {
-	for at := len(place) - 1; at >= 0; at-- {
-		if place[at] == ':' {
-			return place[at:]
-		}
-	}
-	return ""
-}
-
-// A key for one more lock of a class: of its own, if there is room, or that of the rest.
-func ldKeyOf(class uint32, most uint32) uint32 {
-	if class == 0 {
-		return 0
-	}
-	known := &ldClasses[class]
-	if known.ordinals >= most || len(ldStates) > ldMostStates {
-		return known.rest
-	}
-	known.ordinals++
-	ldKeys = append(ldKeys, ldKey{class: class, ordinal: known.ordinals})
-	return uint32(len(ldKeys) - 1)
-}
-
-// Tells apart what is held and what is about to be taken, as far as there is room: more than one lock is held.
-func (task *ldTask) tellApart() {
-	if len(task.holds) == 0 {
-		return
-	}
-	for at := range task.holds {
-		task.holds[at].tellApart()
-	}
-	task.waits.tellApart()
-	task.restate(0)
-}
-
-// Finds the states again of what is held from a place on.
-func (task *ldTask) restate(from int) {
-	for at := from; at < len(task.holds); at++ {
-		hold := &task.holds[at]
-		hold.before = 0
-		if at > 0 {
-			hold.before = task.holds[at-1].after
-		}
-		hold.after = ldStateAfter(hold.before, hold.key, hold.mode)
-	}
-	task.state = 0
-	if len(task.holds) > 0 {
-		task.state = task.holds[len(task.holds)-1].after
-	}
-}
-
-func (hold *ldHold) tellApart() {
-	key := ldKeys[hold.key]
-	if key.class != 0 && key.ordinal == 0 {
-		hold.key = ldKeyOf(key.class, ldMostApart)
-		atomic.StoreUint32(&hold.lock.key, hold.key)
-	}
-}
-
-// ---- Places.
-
-// The callers outside the runtime and this package, innermost first.
-func ldOutside(callers []uintptr) []ldPlace {
-	n := 0
-	for n < len(callers) && callers[n] != 0 {
-		n++
-	}
-	if n == 0 {
-		return nil
-	}
-	frames := runtime.CallersFrames(callers[:n])
-	var places []ldPlace
-	for {
-		frame, more := frames.Next()
-		if frame.Function != "" && (len(places) > 0 || !ldIsOurs(frame.Function)) && frame.Function != "runtime.goexit" {
-			places = append(places, ldPlace{ldVisible(frame.File) + ":" + ldDigits(uint64(frame.Line)), ldVisible(frame.Function)})
-		}
-		if !more {
-			return places
-		}
-	}
-}
-
-func ldIsOurs(function string) bool {
-	return ldBegins(function, "runtime.") || ldBegins(function, "sync.") || ldBegins(function, "reflect.")
-}
-
-func ldBegins(text, beginning string) bool {
-	return len(text) >= len(beginning) && text[:len(beginning)] == beginning
-}
-
-// A text without letters that would end a word or a line.
-func ldVisible(text string) string {
-	letters := []byte(text)
-	for at, letter := range letters {
-		if letter <= ' ' || letter == 0x7f {
-			letters[at] = '_'
-		}
-	}
-	return string(letters)
-}
-
-// ---- States.
-
-// The state that follows by an acquisition. A lock without a class changes nothing.
-func ldStateAfter(before, key uint32, mode uint8) uint32 {
-	if key == 0 {
-		return before
-	}
-	step := ldStepKey{before, key<<3 | uint32(mode)}
-	state, isKnown := ldSteps[step]
-	if !isKnown {
-		state = uint32(len(ldStates))
-		ldStates = append(ldStates, ldState{})
-		ldSteps[step] = state
-	}
-	return state
-}
-
-// Whether a goroutine has to write a state.
-func (state *ldState) isNewTo(goroutine uint64) bool {
-	if state.first == goroutine || state.second != 0 {
-		return false
-	}
-	if state.first == 0 {
-		state.first = goroutine
-	} else {
-		state.second = goroutine
-	}
-	return true
-}
-
-// Finds the state that follows by what is about to be taken, and writes it if it is new.
-func (task *ldTask) follow() {
-	taken := task.waits.key<<3 | uint32(task.waits.mode)
-	step := task.knownStep(taken)
-	if step.to == 0 || step.from != task.state || step.taken != taken {
-		step = task.newStep()
-	}
-	task.waits.before, task.waits.after = task.state, step.to
-}
-
-func (task *ldTask) knownStep(taken uint32) *ldStep {
-	return &task.known[(task.state*31+taken*7+taken>>3)%ldKnownSteps]
-}
-
-// A step that this goroutine hasn't taken yet, or has forgotten. It is kept: all locks of it are told apart that can be.
-func (task *ldTask) newStep() *ldStep {
-	ldMutex.rawLock()
-	task.tellApart()
-	state := ldStateAfter(task.state, task.waits.key, task.waits.mode)
-	if ldStates[state].isNewTo(task.goroutine) {
-		task.write()
-	}
-	ldMutex.rawUnlock()
-	taken := task.waits.key<<3 | uint32(task.waits.mode)
-	step := task.knownStep(taken)
-	*step = ldStep{task.state, taken, state}
-	return step
-}
-
-// Writes what is held, and what is about to be taken, as a nest of its own.
-func (task *ldTask) write() {
-	if task.file == nil {
-		task.file = ldFileOf(task.goroutine)
-	}
-	if task.file.bytes > ldMostBytes {
-		ldCount(ldFullTraces)
-		return
-	}
-	ldText = ldText[:0]
-	if task.file.bytes == 0 {
-		ldText = append(ldText, "N goroutine "+ldDigits(task.goroutine)+" "+ldVisible(lockdep_start())+"\n"...)
-	}
-	for at := range task.holds {
-		task.holds[at].record()
-	}
-	task.waits.record()
-	task.waits.end()
-	for at := len(task.holds) - 1; at >= 0; at-- {
-		task.holds[at].end()
-	}
-	number := ldDigits(uint64(1000000 + task.file.number))[1:]
-	task.file.bytes += len(ldText)
-	if !lockdep_append(ldPath("-"+number), ldText) {
-		ldCount(ldUnwritten)
-	}
-}
-
-func ldFileOf(goroutine uint64) *ldFile {
-	if len(ldFiles) == ldMostFiles {
-		return ldFiles[goroutine%ldMostFiles]
-	}
-	file := &ldFile{number: uint32(len(ldFiles) + 1)}
-	ldFiles = append(ldFiles, file)
-	return file
-}
-
-func (hold *ldHold) record() {
-	if hold.key == 0 {
-		return
-	}
-	hold.begin('A')
-	ldText = append(append(append(ldText, ' '), ldModes[hold.mode]...), '\n')
-	for _, place := range ldOutside(hold.callers[:]) {
-		ldText = append(append(append(append(append(ldText, "P "...), place.text...), ' '), place.function...), '\n')
-	}
-}
-
-func (hold *ldHold) end() {
-	if hold.key != 0 {
-		hold.begin('R')
-		ldText = append(ldText, '\n')
-	}
-}
-
-func (hold *ldHold) begin(letter byte) {
-	key := ldKeys[hold.key]
-	ldText = append(append(ldText, letter, ' '), ldDigits(uint64(key.class))...)
-	ldText = append(append(ldText, ' '), ldDigits(uint64(key.ordinal))...)
-}
-
-func ldWrite(rest, text string) {
-	if !lockdep_append(ldPath(rest), []byte(text)) {
-		ldCount(ldUnwritten)
-	}
 }
 
 // ---- Acquisitions and releases.
@@ -792,120 +475,16 @@ func ldStarts(program string, environment []string) {
 	if !ldOn {
 		return
 	}
-	line := "0 " + program + "\n"
+	line := "X started 1 - " + program + "\n"
 	for _, each := range environment {
 		if ldBegins(each, ldVariable+"=") {
-			line = "1 " + program + "\n"
+			line = "X started 1 recorded " + program + "\n"
 		}
 	}
 	ldMutex.rawLock()
 	if !ldStarted[line] {
 		ldStarted[line] = true
-		ldWrite("-starts", line)
+		ldWrite(line)
 	}
 	ldMutex.rawUnlock()
-}
-
-// ---- What programs call.
-
-//go:noinline
-func (m *Mutex) Lock() {
-	if !ldOn {
-		m.rawLock()
-		return
-	}
-	ldAcquire(uintptr(unsafe.Pointer(m)), ldWriter, m.rawTryLock, m.rawLock)
-}
-
-//go:noinline
-func (m *Mutex) TryLock() bool {
-	isTaken := m.rawTryLock()
-	if ldOn && isTaken {
-		ldTaken(uintptr(unsafe.Pointer(m)), ldTriedWriter)
-	}
-	return isTaken
-}
-
-func (m *Mutex) Unlock() {
-	if ldOn {
-		ldRelease(uintptr(unsafe.Pointer(m)))
-	}
-	m.rawUnlock()
-}
-
-//go:noinline
-func (rw *RWMutex) Lock() {
-	if !ldOn {
-		rw.rawLock()
-		return
-	}
-	ldAcquire(uintptr(unsafe.Pointer(rw)), ldWriter, rw.rawTryLock, rw.rawLock)
-}
-
-//go:noinline
-func (rw *RWMutex) TryLock() bool {
-	isTaken := rw.rawTryLock()
-	if ldOn && isTaken {
-		ldTaken(uintptr(unsafe.Pointer(rw)), ldTriedWriter)
-	}
-	return isTaken
-}
-
-func (rw *RWMutex) Unlock() {
-	if ldOn {
-		ldRelease(uintptr(unsafe.Pointer(rw)))
-	}
-	rw.rawUnlock()
-}
-
-//go:noinline
-func (rw *RWMutex) RLock() {
-	if !ldOn {
-		rw.rawRLock()
-		return
-	}
-	ldAcquire(uintptr(unsafe.Pointer(rw)), ldReader, rw.rawTryRLock, rw.rawRLock)
-}
-
-//go:noinline
-func (rw *RWMutex) TryRLock() bool {
-	isTaken := rw.rawTryRLock()
-	if ldOn && isTaken {
-		ldTaken(uintptr(unsafe.Pointer(rw)), ldTriedReader)
-	}
-	return isTaken
-}
-
-func (rw *RWMutex) RUnlock() {
-	if ldOn {
-		ldRelease(uintptr(unsafe.Pointer(rw)))
-	}
-	rw.rawRUnlock()
-}
-
-func (o *Once) ldLock() {
-	if !ldOn {
-		o.m.rawLock()
-		return
-	}
-	ldAcquire(uintptr(unsafe.Pointer(o)), ldWriter, o.m.rawTryLock, o.m.rawLock)
-}
-
-func (o *Once) ldUnlock() {
-	if ldOn {
-		ldRelease(uintptr(unsafe.Pointer(o)))
-	}
-	o.m.rawUnlock()
-}
-
-// A call of Do waits if another goroutine runs the function, so with other locks held it is an acquisition, whether it has run or not.
-func (o *Once) ldCall() {
-	if !ldOn {
-		return
-	}
-	if task, goroutine := lockdep_task(); task == nil || task.goroutine != goroutine || len(task.holds) == 0 {
-		return
-	}
-	ldTaken(uintptr(unsafe.Pointer(o)), ldWriter)
-	ldRelease(uintptr(unsafe.Pointer(o)))
 }

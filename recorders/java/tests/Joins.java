@@ -2,7 +2,7 @@ import java.util.concurrent.locks.ReentrantLock;
 
 /**
  * Threads that are joined, in ways that differ by what is held meanwhile: the lock that the thread takes (held, timed,
- * unit, hangs, and ended, whose thread has ended before), one that it doesn't take (other), none (none); by a thread that
+ * unit, hangs, ended, whose thread has ended before, and again, whose thread the same thread has joined before), one that it doesn't take (other), none (none); by a thread that
  * joins the one that takes it (passed); and threads that take none (idle), of which there are many before one that
  * does (many). An interrupt may end the wait: pending before it, soon after it began, or pending before a timed one.
  */
@@ -76,6 +76,12 @@ public class Joins {
         joinWithState(thread);
     }
 
+    static void joinAgain() throws InterruptedException {
+        Thread thread = started(Joins::work);
+        thread.join();
+        joinWithState(thread);
+    }
+
     static void joinForATime() throws InterruptedException {
         Thread thread = started(Joins::work);
         state.lock();
@@ -93,6 +99,7 @@ public class Joins {
         way = words[0];
         goesOn = way.equals("held") || way.equals("many") || way.equals("passed") || way.equals("own");
         if (way.equals("ended")) joinEnded();
+        if (way.equals("again")) joinAgain();
         if (way.equals("held") || way.equals("hangs")) joinWithState(started(Joins::work));
         if (way.equals("timed")) joinForATime();
         if (way.equals("other")) joinOther(started(Joins::work));

@@ -179,7 +179,7 @@ static bool is_another_interrupt(struct task *task, int depth) {
 
 static void begin_another_interrupt(struct task *task, int depth) {
     enum frame frame = top(task)->frame;
-    counts.untold_interrupts++;
+    counts.unmarked_interrupts++;
     leave(task);
     enter(task, frame, depth);
 }

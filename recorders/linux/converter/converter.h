@@ -59,12 +59,12 @@ struct counts {
     unsigned long records, acquisitions, releases, events, traces;
     unsigned long agreed, mismatches, lost, gaps, blind;
     unsigned long taken_in_flight, given_in_flight;
-    unsigned long untold_interrupts; /* that no tracepoint told of, after one in which an operation was in flight */
+    unsigned long unmarked_interrupts; /* that no tracepoint told of, after one in which an operation was in flight */
     unsigned long unchecked, tries, not_looked_at, readers, not_chosen, unknown_releases, beyond_limit;
     unsigned long nested;        /* acquisitions under a nest_lock, with another lock of their class held */
     unsigned long off;           /* events after lockdep turned itself off, or of a recording without its account */
     unsigned long after_lockdep; /* events since the last one that lockdep looked at */
-    unsigned long untold;        /* records of a CPU before its first task */
+    unsigned long before_first_task; /* records of a CPU before its first task */
     unsigned long cut_files;
     unsigned long absent, misplaced, unknown_types; /* records that damage took away, put elsewhere, or overwrote */
     unsigned long unproven;      /* acquisitions of a text of which it isn't known until when the lock was held */
@@ -104,7 +104,7 @@ struct item {
     bool is_before_gap;
 };
 
-#define NOT_TOLD SIZE_MAX
+#define NOT_SAID SIZE_MAX
 
 /* A symbol of the kernel that was recorded, and where it lies. */
 struct landmark {
@@ -113,11 +113,11 @@ struct landmark {
 };
 
 /* What `control` says of the recording. */
-struct told {
+struct control {
     bool is_there;
     bool is_of_text; /* it was made of text, in which more is missing */
     bool is_lockdep_off; /* lockdep had turned itself off at the end */
-    size_t symbols, modules; /* bytes of these files, or NOT_TOLD */
+    size_t symbols, modules; /* bytes of these files, or NOT_SAID */
     struct landmark *landmarks;
     size_t landmark_count;
 };
@@ -125,7 +125,7 @@ struct told {
 extern struct cpu cpus[MAX_CPUS];
 extern int cpu_count;
 extern int open_gaps; /* how many CPUs are losing records */
-extern struct told told;
+extern struct control control;
 
 char *read_file(const char *path, size_t *size);
 char *read_raw(const char *name, size_t *size);
@@ -144,7 +144,7 @@ void compare_control(void);
 struct load {
     const char *name;
     uint64_t from, until; /* numbers of records */
-    uint64_t start;       /* from which distances are told: its `__this_module`, which lies among its variables */
+    uint64_t start;       /* from which distances are measured: its `__this_module`, which lies among its variables */
 };
 
 struct symbol {

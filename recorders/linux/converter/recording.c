@@ -109,7 +109,7 @@ bool next_item(struct item *item) {
 }
 
 static bool is_known_type(const struct lr_record *record) {
-    return record->type <= LR_UNDER && (record->type != LR_NOTHING || told.is_of_text);
+    return record->type <= LR_UNDER && (record->type != LR_NOTHING || control.is_of_text);
 }
 
 /* Counts what a file lost or got in the middle. The numbers of all CPUs' records together are 1, 2, 3 and so on: events that found no room
@@ -118,7 +118,7 @@ void check_item(const struct item *item) {
     static uint64_t last;
     uint64_t number = item->record->number;
     counts.unknown_types += !is_known_type(item->record);
-    if (number == 0 && told.is_of_text)
+    if (number == 0 && control.is_of_text)
         return;
     if (number > last) {
         counts.absent += number - last - 1;
@@ -130,8 +130,8 @@ void check_item(const struct item *item) {
 
 /* ---- Whether the recording is whole: what the module wrote, as `control` says, was read. */
 
-struct told told = {.symbols = NOT_TOLD, .modules = NOT_TOLD};
-static bool is_cpu_told[MAX_CPUS];
+struct control control = {.symbols = NOT_SAID, .modules = NOT_SAID};
+static bool is_cpu_named[MAX_CPUS];
 
 /* Compares one line of `control` with the file of its CPU. */
 static void compare_cpu(const char *line) {
@@ -139,7 +139,7 @@ static void compare_cpu(const char *line) {
     unsigned long written;
     if (sscanf(line, "cpu%u slots written %lu", &number, &written) != 2 || number >= MAX_CPUS)
         return;
-    told.is_there = is_cpu_told[number] = true;
+    control.is_there = is_cpu_named[number] = true;
     if (cpus[number].slot_count != written)
         incomplete("records-missing", "the module wrote %lu slots on CPU %u, and %zu are there: was the disk full?", written, number,
                    cpus[number].slot_count);
@@ -152,19 +152,19 @@ static void note_landmark(char *line) {
     if (!line)
         return;
     struct landmark landmark = {strtoull(address, NULL, 16), line};
-    PUSH(told.landmarks, told.landmark_count, landmark);
+    PUSH(control.landmarks, control.landmark_count, landmark);
 }
 
 static void note_line(char *line) {
     unsigned long bytes, lost;
     compare_cpu(line);
-    told.is_of_text = told.is_of_text || !strcmp(line, "made of text");
-    told.is_lockdep_off = told.is_lockdep_off || !strcmp(line, "lockdep off");
+    control.is_of_text = control.is_of_text || !strcmp(line, "made of text");
+    control.is_lockdep_off = control.is_lockdep_off || !strcmp(line, "lockdep off");
     sscanf(line, "text left out %lu", &counts.unproven);
     if (sscanf(line, "symbols written %lu", &bytes) == 1)
-        told.symbols = bytes;
+        control.symbols = bytes;
     if (sscanf(line, "modules written %lu lost %lu", &bytes, &lost) == 2) {
-        told.modules = bytes;
+        control.modules = bytes;
         if (lost)
             incomplete("modules-lost", "there was no room for the symbols of all modules: classes of these may be joined");
     }
@@ -172,9 +172,9 @@ static void note_line(char *line) {
         note_landmark(line);
 }
 
-static void find_untold_cpu(void) {
-    for (int number = 0; told.is_there && number < cpu_count; number++)
-        if (cpus[number].is_there && !is_cpu_told[number])
+static void find_unnamed_cpu(void) {
+    for (int number = 0; control.is_there && number < cpu_count; number++)
+        if (cpus[number].is_there && !is_cpu_named[number])
             incomplete("control-missing", "%.150s/control says nothing of CPU %d, so it isn't known whether all was read", options.raw,
                        number);
 }
@@ -184,7 +184,7 @@ void compare_control(void) {
     char *text = read_raw("control", &size);
     for (char *line; text && (line = strsep(&text, "\n"));)
         note_line(line);
-    find_untold_cpu();
-    if (!told.is_there)
+    find_unnamed_cpu();
+    if (!control.is_there)
         incomplete("control-missing", "%.150s/control isn't there or says nothing, so it isn't known whether all was read", options.raw);
 }

@@ -41,7 +41,7 @@ void tell_summary(FILE *file) {
     tell(file, counts.gaps, "gaps", false);
     tell(file, counts.taken_in_flight, "acquisitions in flight", false);
     tell(file, counts.given_in_flight, "releases in flight", false);
-    tell(file, counts.untold_interrupts, "interrupts that no tracepoint told of, after an operation in flight", false);
+    tell(file, counts.unmarked_interrupts, "interrupts that no tracepoint told of, after an operation in flight", false);
     tell(file, counts.blind, "left out: records of a task whose locks aren't known", false);
     tell(file, counts.unchecked, "left out: acquisitions that lockdep doesn't check", false);
     tell(file, counts.tries, "left out: try acquisitions, which version 1 can't say", false);
@@ -53,17 +53,17 @@ void tell_summary(FILE *file) {
     tell(file, counts.unknown_releases, "releases of locks that the task wasn't seen to take", false);
     tell(file, counts.beyond_limit, "left out: records of tasks whose trace is full", false);
     tell(file, counts.nested, "acquisitions under a nest_lock, by which they are safe", false);
-    tell(file, counts.off, told.is_of_text ? "records without lockdep's account" : "records after lockdep turned itself off", false);
+    tell(file, counts.off, control.is_of_text ? "records without lockdep's account" : "records after lockdep turned itself off", false);
     tell(file, counts.unproven, "left out: acquisitions at an end of the text whose release may be missing", false);
     tell(file, counts.alike, "left out: tasks that do what two others do, by which nothing is lost", false);
     tell(file, counts.shared, "tasks that share a trace", false);
-    tell(file, counts.untold, "left out: records of a CPU before its task was told", false);
+    tell(file, counts.before_first_task, "left out: records of a CPU before its task was told", false);
     tell_joined(file);
 }
 
 /* What a recording lacks. */
 void note_incomplete(void) {
-    bool is_off = told.is_lockdep_off || (counts.off && !told.is_of_text);
+    bool is_off = control.is_lockdep_off || (counts.off && !control.is_of_text);
     if (counts.lost || counts.gaps)
         incomplete("lost-records", "%lu records were lost in %lu gaps: the traces may have false orders", counts.lost, counts.gaps);
     if (counts.cut_files)
@@ -78,8 +78,8 @@ void note_incomplete(void) {
                    counts.off);
     if (counts.after_lockdep)
         incomplete("not-looked-at", "lockdep looked at none of the last %lu events: has it turned itself off?", counts.after_lockdep);
-    if (counts.untold)
-        incomplete("untold-task", "of %lu records it isn't known which task they are of", counts.untold);
+    if (counts.before_first_task)
+        incomplete("untold-task", "of %lu records it isn't known which task they are of", counts.before_first_task);
 }
 
 /* What of the recording isn't in the traces, or may be wrong there. */
@@ -96,7 +96,7 @@ void note_left_out(void) {
     if (counts.traces > options.most_traces)
         incomplete("too-many-traces", "there are more than %lu traces, since tasks end with a lock held: give check a part of them",
                    options.most_traces);
-    if (told.is_of_text)
+    if (control.is_of_text)
         incomplete("text", "text doesn't tell subclasses, recursive readers, nest_lock or two classes of one name: there may be false cycles");
 }
 

@@ -166,7 +166,7 @@ static void event_of(struct cpu *cpu, const struct lr_record *record) {
     if (!(record->state & LR_LOOKED_AT) || (record->state & LR_IN_NMI))
         counts.not_looked_at++;
     else if (!cpu->task)
-        counts.untold++;
+        counts.before_first_task++;
     else
         step(cpu->task, record, cpu->nest_lock);
     cpu->nest_lock = 0;

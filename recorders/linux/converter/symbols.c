@@ -89,7 +89,7 @@ static void read_symbols(char *text) {
 
 /* Compares the size of a file of the recording with what `control` says of it. */
 static void compare_size(const char *name, const char *code, size_t size, size_t written) {
-    if (written == NOT_TOLD)
+    if (written == NOT_SAID)
         incomplete(code, "the recording doesn't say how large `%s` was, so it isn't known whether all of it is there", name);
     else if (size != written)
         incomplete(code, "`%s` had %zu bytes, and %zu are there: classes and callers may be wrong", name, written, size);
@@ -104,9 +104,9 @@ static bool has_landmark(const struct landmark *landmark) {
 
 /* A symbol that isn't where the recorded kernel had it. NULL: there is none. */
 static const struct landmark *misplaced(void) {
-    for (size_t number = 0; number < told.landmark_count; number++)
-        if (!has_landmark(&told.landmarks[number]))
-            return &told.landmarks[number];
+    for (size_t number = 0; number < control.landmark_count; number++)
+        if (!has_landmark(&control.landmarks[number]))
+            return &control.landmarks[number];
     return NULL;
 }
 
@@ -123,7 +123,7 @@ static void compare_landmarks(void) {
                    "the symbols aren't those of the kernel that was recorded, or not all of them, and aren't used: %s isn't at %llx there", other->name,
                    (unsigned long long)other->address);
         forget_symbols();
-    } else if (!told.landmark_count) {
+    } else if (!control.landmark_count) {
         incomplete("other-symbols",
                    "the recording doesn't say where any symbol was, so it isn't known whether these symbols are of its kernel");
     }
@@ -136,15 +136,15 @@ static void load_image(void) {
     char *text = options.symbols ? read_file(options.symbols, &size) : read_raw("symbols", &size);
     if (!text && options.symbols)
         refuse(options.symbols, "can't be opened");
-    if (text && told.is_there && !told.is_of_text && !options.symbols)
-        compare_size("symbols", "symbols-cut", size, told.symbols);
+    if (text && control.is_there && !control.is_of_text && !options.symbols)
+        compare_size("symbols", "symbols-cut", size, control.symbols);
     if (text)
         read_symbols(text);
     if (symbol_count && !image_start)
         refuse(name, "has no _text, or root didn't read it");
-    if (!symbol_count && !told.is_of_text)
+    if (!symbol_count && !control.is_of_text)
         incomplete("no-symbols", "there are no symbols: classes of one name are joined");
-    else if (told.is_there && !told.is_of_text)
+    else if (control.is_there && !control.is_of_text)
         compare_landmarks();
 }
 
@@ -154,10 +154,10 @@ static void load_modules(void) {
     char *text = read_raw("modules", &size);
     if (text)
         read_symbols(text);
-    else if (told.is_there && !told.is_of_text)
+    else if (control.is_there && !control.is_of_text)
         incomplete("modules-cut", "`modules` isn't there: classes of one name in modules are joined, and their callers aren't known");
-    if (text && told.is_there && !told.is_of_text)
-        compare_size("modules", "modules-cut", size, told.modules);
+    if (text && control.is_there && !control.is_of_text)
+        compare_size("modules", "modules-cut", size, control.modules);
 }
 
 void load_symbols(void) {

@@ -4,7 +4,7 @@ import os
 import sys
 from time import monotonic, sleep
 
-from lockdep_record.folder import RUN, Folder, Refusal, say_refusal
+from lockdep_record.folder import RUN, Folder, Refusal, run_settings, say_refusal
 
 PASSED_ON = (signal.SIGHUP, signal.SIGINT, signal.SIGQUIT, signal.SIGTERM, signal.SIGUSR1, signal.SIGUSR2)
 FROM_KERNEL = 128  # the code of a signal that a terminal sends
@@ -118,8 +118,9 @@ STILL_RUNS = {
 }
 
 
-def wait_for(child, witness, recorder):
-    """Waits for the command and passes signals on to it. What a terminal or `timeout` sends, it sends to the command too."""
+def wait_for(child, witness, still_runs):
+    """Waits for the command and passes signals on to it. What a terminal or `timeout` sends, it sends to the command too. If the command goes on after Ctrl-C,
+    a line says so, unless it is empty."""
     interrupted = None
     while True:
         ended, status = os.waitpid(child, os.WNOHANG)
@@ -127,7 +128,8 @@ def wait_for(child, witness, recorder):
             break
         came = next_signal(interrupted)
         if came is None:
-            say_it_runs(recorder)
+            if still_runs:
+                print(still_runs, file=sys.stderr, flush=True)
             interrupted = float("inf")
         elif came.si_signo != signal.SIGCHLD:
             is_of_group = os.getpgid(child) == os.getpgrp()
@@ -148,11 +150,6 @@ def next_signal(interrupted):
     return signal.sigtimedwait(awaited, max(0, interrupted + PATIENCE - monotonic()))
 
 
-def say_it_runs(recorder):
-    if RUN in os.environ and not os.environ.get("LOCKDEP_RUN_QUIET"):
-        print("lockdep: the command still runs, " + STILL_RUNS[recorder], file=sys.stderr, flush=True)
-
-
 def command_end(status):
     """How the command ended, unless well."""
     if not status:
@@ -162,14 +159,16 @@ def command_end(status):
     return " (the command ended with status %d%s)" % (status, ", as by " + name if name else "")
 
 
-def record(folder, command, environment, then, is_chosen):
+def record(folder, command, environment, then, is_chosen, asked_of_run):
     """Records a command in an environment. Ends with its status, or becomes what runs after it."""
-    folder.begin(is_chosen)
+    folder.begin(is_chosen, asked_of_run)
+    is_said = RUN in os.environ and not run_settings.settings_of(asked_of_run).has("quiet")
+    still_runs = "lockdep: the command still runs, " + STILL_RUNS[folder.recorder] if is_said else ""
     environment = folder.watched(command, environment, is_chosen)
     block_signals()
     witness = Witness()
     child = start(command, environment)
-    status = wait_for(child, witness, folder.recorder)
+    status = wait_for(child, witness, still_runs)
     try:
         folder.finish()
     except Refusal as refusal:
@@ -189,6 +188,7 @@ def finish_again(folder):
     """Makes the traces of a recording whose recorder was killed."""
     if os.path.isdir(folder.path):
         folder.lock()
+        run_settings.drop(folder.path)
     folder.finish()
 
 
@@ -201,7 +201,7 @@ def value(words, option, what="a folder"):
 
 def do(words, recorder):
     """Reads the command line of a recorder, and does what it says. The recorder itself handles its own options."""
-    path, then = "traces", None
+    path, then, asked_of_run = "traces", None, run_settings.take_over()
     while words:
         word = words.pop(0)
         if word == "-o":
@@ -226,7 +226,9 @@ def do(words, recorder):
     if not words:
         raise Refusal("which program? `%s --help` says how to call this" % recorder.called)
     folder = Folder(path, recorder.name)
-    return record(folder, recorder.command(words), dict(os.environ, **recorder.environment(folder.raw)), then, recorder.is_chosen)
+    command = recorder.command(words)  # (which the environment may have to name)
+    environment = dict(os.environ, **recorder.environment(folder.raw))
+    return record(folder, command, environment, then, recorder.is_chosen, asked_of_run)
 
 
 def main(recorder):

@@ -5,8 +5,8 @@ import sys
 
 HOME = os.path.dirname(os.path.dirname(os.path.dirname(os.path.dirname(os.path.realpath(__file__)))))
 sys.path.insert(0, os.path.join(HOME, "tool"))
-from lockdep import finishing, folder as driver, joins, losses, summary  # noqa: E402, F401
-from lockdep.saying import RUN, Refusal, say_refusal, typed  # noqa: E402, F401
+from lockdep.record import folder as driver, losses, run_settings, summary  # noqa: E402, F401
+from lockdep.base.saying import RUN, Refusal, say_refusal, typed  # noqa: E402, F401
 sys.path.pop(0)
 
 GUESSED = "guessed\n"  # in the mark of a recording whose recorder the user didn't name
@@ -32,16 +32,17 @@ class Folder(driver.Folder):
         super().__init__(driver.checked(path))
         self.recorder, self.own_mark = recorder, os.path.join(self.raw, recorder)
 
-    def begin(self, is_chosen):
-        """Prepares the folder for a recording."""
+    def begin(self, is_chosen, asked_of_run):
+        """Prepares the folder for a recording, which `lockdep run` may have begun."""
         self.prepare()
+        self.put_run_settings(asked_of_run)
         self.put(self.recorder, "" if is_chosen else GUESSED)
 
     def watched(self, command, environment, is_chosen):
         """The environment of a command. Unless the user chose this recorder, the locks of C libraries are looked at too."""
         if is_chosen and "LOCKDEP_LIBRARIES" not in environment:
             return environment
-        from lockdep import libraries
+        from lockdep.finish import libraries
         return libraries.without(environment) if is_chosen else libraries.watched(HOME, self, command, environment)
 
     def finish(self):
@@ -59,15 +60,34 @@ class Folder(driver.Folder):
         driver.remove_tree(os.path.join(self.path, driver.STAGE))
 
     def make_traces(self):
-        from lockdep_record import finish
+        from lockdep.finish import log_traces
         with open(self.own_mark, encoding="utf-8") as file:
             is_chosen = file.read() != GUESSED
-        made = finish.write_traces(self.raw, self.path, self.recorder, is_chosen)
+        made, processes = log_traces.finish(self.path, self.raw, self.recorder, False,
+                                            lambda processes: self.counts_of_starts(processes, is_chosen))
+        self.add_libraries(processes, made, is_chosen)
         if os.path.isdir(os.path.join(self.raw, driver.INSIDE)):
-            from lockdep import libraries
+            from lockdep.finish import libraries
             libraries.add_traces(HOME, self.path, self.raw, made)
         summary.write(self.path, made, self.recorder)
         self.list_made()
+
+    @staticmethod
+    def counts_of_starts(processes, is_chosen):
+        """The counts of the programs that the processes started. Programs with locks of other kinds count as left out unless the user chose this
+        recorder."""
+        if not any(process.starts for process in processes):
+            return []
+        from lockdep_record import started
+        return started.counts_of(processes, is_chosen)
+
+    @staticmethod
+    def add_libraries(processes, made, is_chosen):
+        """Adds the libraries that the processes loaded to what was counted."""
+        loaded = dict.fromkeys(library for process in processes for library in process.libraries)
+        if loaded:
+            from lockdep_record import started
+            started.add_libraries(made, loaded, is_chosen)
 
     def drop_traces(self):
         """Takes away the traces that could be written of those that couldn't all be."""
@@ -97,5 +117,5 @@ class Folder(driver.Folder):
 
     def say_what_was_seen(self):
         """Prints what was recorded and what was left out. Returns 0, 1 if something was left out, and 2 if no lock was seen."""
-        from lockdep.seen import say_what_was_seen_of_own
+        from lockdep.say.seen import say_what_was_seen_of_own
         return say_what_was_seen_of_own(self.path, self.summary())

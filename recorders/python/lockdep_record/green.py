@@ -3,15 +3,17 @@ these packages have, some are written in C and none is looked at, so that the pa
 import os
 import sys
 
-from . import locks, recording
-from .recording import Lock as Record, gave, getframe, made_at
+from . import library_locks, locks, log, places, recording
+from .classes import Lock as Record, made_at
+from .places import getframe
+from .recording import gave
 
 
 def count_package(name):
     """What is done when a package is loaded that has locks which aren't looked at."""
     def count(module):
-        recording.process.counts[name] += 1
-        recording.put(recording.count_lines())
+        log.process.counts[name] += 1
+        log.put(log.count_lines())
     return count
 
 
@@ -22,7 +24,7 @@ def replace_gevent(module):
 
 def replace_eventlet(module):
     """Notes what is done with the lock of `eventlet.lock`, in its own class, whose `__enter__` is that of a semaphore."""
-    recording.pass_over(sys.modules[module.Lock.__base__.__module__].__file__)
+    places.pass_over(sys.modules[module.Lock.__base__.__module__].__file__)
     replace_lock(module.Lock, os.path.dirname(module.__file__))
 
 
@@ -59,7 +61,7 @@ def replace_lock(real, folder):
 
         def release_really():
             real_release(self)
-        return locks.take_or_wait(record, self.locked(), acquire_really, release_really, blocking, timeout)
+        return library_locks.take_or_wait(record, self.locked(), acquire_really, release_really, blocking, timeout)
 
     def release(self, *words, **named):
         record = vars(self).get("_lockdep_record")

@@ -4,13 +4,16 @@ whose signal isn't blocked in that thread. What the program sees are its own han
 import _signal
 import functools
 import os
+from _thread import get_ident
 from _weakref import ref
 from itertools import count as counting
 from types import FunctionType, MethodType
 
-from . import recording
-from .recording import (MOST_HELD, TRY, Task, abandon, declare_source, get_ident, getframe, give_back, place_of, settle, take_again,
-                        tell_all_apart, visible)
+from . import ends, log, places, recording, tasks
+from .log import TRY, declare_source, place_of
+from .places import getframe, visible
+from .recording import MOST_HELD, abandon, give_back, settle, take_again, tell_all_apart
+from .tasks import Task
 
 MOST_SOURCES = 64  # handlers that are told apart
 OTHER_NAMES = ("SIGCLD", "SIGPOLL", "SIGIOT")  # second names of signals
@@ -56,7 +59,7 @@ def function_of(handler):
 
 
 def is_of_program(name):
-    return (recording.kinds[name] if name in recording.kinds else recording.kind_of(name)) == recording.PLAIN
+    return (places.kinds[name] if name in places.kinds else places.kind_of(name)) == places.PLAIN
 
 
 def is_followed(handler, function, frame):
@@ -110,11 +113,11 @@ class Run:
         self.task, self.is_entered = None, False
 
     def enter(self, source):
-        runs, here, self.process = recording.runs, recording.here, recording.process
+        runs, here, self.process = tasks.runs, log.here, log.process
         note_run(source)
-        self.loop = recording.find_loop() if recording.find_loop is not None else None
+        self.loop = tasks.find_loop() if tasks.find_loop is not None else None
         self.depth, self.before = len(runs), vars(here).get("task")
-        running = recording.running_one()
+        running = tasks.running_one()
         self.interrupted = self.before if running is None else getattr(getattr(running, "_lockdep_guard", None), "task", None)
         self.task = task_for(source)
         self.is_entered = True
@@ -123,13 +126,13 @@ class Run:
 
     def leave(self, source):
         """The run is over. (In a process that it has forked it goes on as a part of what it interrupted.)"""
-        if not self.is_entered or recording.process is not self.process:
+        if not self.is_entered or log.process is not self.process:
             return
         if self.before is None:
-            vars(recording.here).pop("task", None)
+            vars(log.here).pop("task", None)
         else:
-            recording.here.task = self.before
-        del recording.runs[self.depth:]
+            log.here.task = self.before
+        del tasks.runs[self.depth:]
         self.is_entered = False
         if not self.task.is_busy:
             end_run(self.task)
@@ -139,10 +142,10 @@ class Run:
 def note_run(source):
     """A handler runs: that it ever did is written at once."""
     source.runs += 1
-    of = recording.process
+    of = log.process
     if (source, "Y") not in of.told:
         declare_source(source)
-        recording.put("Y %d %d\n" % (source.number, source.runs))
+        log.put("Y %d %d\n" % (source.number, source.runs))
         of.told[source, "Y"] = True
 
 
@@ -151,26 +154,26 @@ def task_for(source):
     task = source.free.pop() if source.free else None
     if task is None or task.is_over:
         return Task(source)
-    if task.state != recording.state:
+    if task.state != tasks.state:
         recording.enter_state_of(task)
     return task
 
 
 def end_run(task):
     """What a handler leaves locked is held by what it interrupted, which took it without waiting."""
-    if task.wish is not None or task.dropped:
+    if task.pending is not None or task.dropped:
         settle(task)
     left = [(entry, place_of(task, entry)) for entry in task.held]
     for entry, _ in reversed(left):
         give_back(task, entry)
     for entry, place in left:
-        hand_over(entry, place, recording.current())
+        hand_over(entry, place, tasks.current())
 
 
 def hand_over(entry, place, to):
     if to.is_busy or len(to.held) >= MOST_HELD:
-        entry.lock.entry = recording.LEFT_OUT
-        recording.process.counts["reentered"] += 1
+        entry.lock.entry = tasks.LEFT_OUT
+        log.process.counts["reentered"] += 1
         return
     to.is_busy = True
     try:
@@ -187,16 +190,16 @@ def hand_over(entry, place, to):
 
 def operations():
     """How much the main thread's tasks have done, and all those that are written."""
-    return recording.process.counts["operations"] + sum(task.operations for task in list(recording.process.tasks) if task.is_main)
+    return log.process.counts["operations"] + sum(task.operations for task in list(log.process.tasks) if task.is_main)
 
 
 def run_unfollowed(handler, number, frame):
     """Runs a handler for which there was no room, as a part of what it interrupted. It is counted if it takes locks."""
-    of, before = recording.process, operations()
+    of, before = log.process, operations()
     try:
         return handler(number, frame)
     finally:
-        if of is recording.process and operations() != before:
+        if of is log.process and operations() != before:
             of.counts["unfollowed-handlers"] += 1
 
 
@@ -209,7 +212,7 @@ class Handling:
         self.source, self.handler = source, handler
 
     def __call__(self, number, frame):
-        if recording.process.is_off or recording.find_greenlet is not None:  # (a handler may switch to another greenlet)
+        if log.process.is_off or tasks.find_greenlet is not None:  # (a handler may switch to another greenlet)
             return self.handler(number, frame)
         if self.source is None:
             return run_unfollowed(self.handler, number, frame)
@@ -237,8 +240,8 @@ def state_now():
 
 def look():
     """Notes which handlers may come in from here on. A handler that comes in meanwhile may change that."""
-    new = state_now() if get_ident() == recording.main_thread else recording.state
-    while new != recording.state:
+    new = state_now() if get_ident() == tasks.main_thread else tasks.state
+    while new != tasks.state:
         recording.enter_state(new)
         new = state_now()
 
@@ -252,15 +255,15 @@ def state_in_child():
 
 def run_lines():
     """How often handlers have run."""
-    return "".join("Y %d %d\n" % (source.number, source.runs) for source in sources if (source, "Y") in recording.process.told)
+    return "".join("Y %d %d\n" % (source.number, source.runs) for source in sources if (source, "Y") in log.process.told)
 
 
 # ---- In the place of Python's own.
 
 def handling_of(number, handler, frame):
     """What is installed for a handler: itself, unless it is followed."""
-    if not callable(handler) or handler is _signal.default_int_handler or not isinstance(number, int) or recording.process.is_off \
-            or get_ident() != recording.main_thread:
+    if not callable(handler) or handler is _signal.default_int_handler or not isinstance(number, int) or log.process.is_off \
+            or get_ident() != tasks.main_thread:
         return handler
     function = function_of(handler)
     return Handling(source_of(number, handler, function), handler) if is_followed(handler, function, frame) else handler
@@ -303,7 +306,7 @@ def put_in_place(*functions):
 
 def begin():
     """From here on handlers that are set are noted."""
-    recording.run_lines, recording.state_in_child = run_lines, state_in_child
+    ends.run_lines, tasks.state_in_child = run_lines, state_in_child
     put_in_place(signal, getsignal)
     if real_mask is not None:
         put_in_place(pthread_sigmask)

@@ -17,17 +17,20 @@ from _thread import get_ident, get_native_id
 from itertools import count as counting_from
 from time import monotonic, sleep
 
-from . import locks, provoke_file, recording
+from . import beginning, ends, library_locks, locks, places, provoke_file
+from .log import TIMED, WRITE
+from .places import getframe
 from .provoke_file import (ASIDE, CALLERS_OF_HELD, HELD, MOST_CALLERS, MOST_HELD, MOST_PAUSES, NOBODY, THREAD, count, free_place,
                            number_of, pauses_before, put_thread)
 from .provoke_plan import innermost, place_of, read_plan, stack_of
-from .recording import TIMED, WRITE, getframe
 
 MOST_CHANGES = 0xffffffff
 RUNS, STANDS, WAITS = 0, 1, 2
 
 # The same limits as in provoke/threads.c: milliseconds of a pause, and of all of a process; and the pauses of one length at an order.
-DEFAULT_PAUSE, MOST_PAUSED, PAUSES_OF_ONE_LENGTH = 300, 10000, 10
+DEFAULT_PAUSE = 300
+MOST_PAUSED = 10000
+PAUSES_OF_ONE_LENGTH = 10
 LOOK = 0.001  # seconds from one look to the next, of a thread that stands
 
 first_pause = DEFAULT_PAUSE
@@ -104,7 +107,7 @@ class Thread:
         """It stands or waits from here on."""
         self.awaited, self.stack, self.state = lock, stack, state
         known = threading._active.get(get_ident())
-        self.name = number_of(recording.visible(known.name)) if known is not None else 0
+        self.name = number_of(places.visible(known.name)) if known is not None else 0
         self.write()
 
     def end(self):
@@ -195,7 +198,7 @@ def gave(lock, real):
             entry.thread.write()
 
 
-def wish(lock, is_long=True, mode=WRITE):
+def begin_pending(lock, is_long=True, mode=WRITE):
     """The running thread waits for a lock. One that gives up at a time is in no cycle."""
     thread = running()
     if thread is not None and mode != TIMED:
@@ -220,7 +223,7 @@ def failed_try(lock):
     """A try has failed."""
 
 
-REPLACING = {"Record": Lock, "took": took, "gave": gave, "wish": wish, "grant": grant, "not_granted": not_granted,
+REPLACING = {"Record": Lock, "took": took, "gave": gave, "begin_pending": begin_pending, "grant": grant, "not_granted": not_granted,
              "break_off": not_granted, "failed_try": failed_try}
 
 
@@ -376,14 +379,15 @@ def begin(plan, path):
     if not read_plan(plan):
         return
     vars(locks).update(REPLACING, PATIENCE=0)
-    recording.end_process = end_process
-    locks.begin_locks()
+    vars(library_locks).update(REPLACING)
+    ends.end_process = end_process
+    beginning.begin_locks()
     for real, endless in ((locks.lock, -1), (locks.RLock, -1), (threading._PyRLock, -1), (threading.Semaphore, None)):
         hold_back(real, endless)
     for real in (locks.RLock, threading._PyRLock):
         hold_back_after_wait(real)
-    locks.Finder.awaited = {"asyncio.locks": count_asyncio}
-    sys.meta_path.insert(0, locks.Finder)
+    beginning.Finder.awaited = {"asyncio.locks": count_asyncio}
+    sys.meta_path.insert(0, beginning.Finder)
     os.register_at_fork(after_in_child=begin_in_child)
-    locks.replace_exit()
+    beginning.replace_exit()
     atexit.register(end_process)

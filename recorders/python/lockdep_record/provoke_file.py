@@ -6,12 +6,16 @@ import os
 import struct
 from _thread import allocate_lock
 
-from .recording import close_file, open_file, write_bytes
+from .log import close_file, open_file, write_bytes
 
 # The sizes of provoke.h.
-MOST_ORDERS, MOST_THREADS, MOST_HELD, MOST_CALLERS, CALLERS_OF_HELD = 64, 1024, 48, 16, 8
+MOST_ORDERS = 64
+MOST_THREADS = 1024
+MOST_HELD = 48
+MOST_CALLERS = 16
+CALLERS_OF_HELD = 8
 HEAD, COUNTS = struct.Struct("=8sII"), struct.Struct("=%dI" % (4 * MOST_ORDERS))
-THREAD, HELD = struct.Struct("=iiIIIIQII16QII"), struct.Struct("=QIIQ8Q")
+THREAD, HELD = struct.Struct("=iiIIIIQII%dQII" % MOST_CALLERS), struct.Struct("=QIIQ%dQ" % CALLERS_OF_HELD)
 FIELDS, NOBODY = THREAD.unpack(bytes(THREAD.size)), b"\0\0\0\0"
 SIZE_OF_THREAD = THREAD.size + MOST_HELD * HELD.size
 FIRST_THREAD = HEAD.size + COUNTS.size

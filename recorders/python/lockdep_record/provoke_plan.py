@@ -1,11 +1,11 @@
 """The plan of `lockdep provoke`: for each order of a finding the places where its first lock is taken and where its second one is asked for."""
-from . import recording
+from . import places
+from .places import PASSED
 from .provoke_file import MOST_ORDERS
-from .recording import PASSED
 
 NO_OFFSET = "-"  # of a place in words
 planned = {}  # by their texts
-places = {}  # by what `recording` knows a place by
+known_places = {}  # by what `places` knows a place by
 
 
 class Place:
@@ -36,19 +36,19 @@ def place_of(caller):
     """The place of a caller, which is given as its code and instruction."""
     code, at = caller
     key = code.co_filename, code.co_firstlineno, code.co_name, at
-    place = places.get(key)
+    place = known_places.get(key)
     if place is None:
-        text = recording.place_text((caller,)).encode("utf-8", "replace").decode("utf-8")
-        place = places[key] = planned.get(text) or Place(text)
+        text = places.place_text((caller,)).encode("utf-8", "replace").decode("utf-8")
+        place = known_places[key] = planned.get(text) or Place(text)
     return place
 
 
 def stack_of(frame, most):
     """The callers of a call, the innermost first, without those that only do what their caller asks for."""
-    kinds, found = recording.kinds, []
+    kinds, found = places.kinds, []
     while frame is not None and len(found) < most:
         name = frame.f_code.co_filename
-        if (kinds[name] if name in kinds else recording.kind_of(name)) != PASSED:
+        if (kinds[name] if name in kinds else places.kind_of(name)) != PASSED:
             found.append((frame.f_code, frame.f_lasti))
         frame = frame.f_back
     return found

@@ -1,5 +1,5 @@
-"""What is said of the programs that recorded processes started, and of the libraries that they loaded. (`finish` needs this only where there are some.)"""
-from lockdep.libraries import note_others
+"""What is said of the programs that recorded processes started, and of the libraries that they loaded. (`folder` needs this only where there are some.)"""
+from lockdep.finish.libraries import note_others
 
 from . import starts
 from .folder import HOME, losses
@@ -65,7 +65,7 @@ def count_of(code, of, is_counted=True, reasons=losses.REASONS_OF_STARTS):
         line = start.text(), reasons.get(start.reason)
         times[line] = times.get(line, 0) + 1
     notes = ["  " + summaries.File(text, count, why).text(None) for (text, why), count in times.items()]
-    words = losses.words_of(code, "python")
+    words = losses.words_of_loss(code, "python")
     return [summaries.Count(code if is_counted else code + ", not counted", len(of) if is_counted else None, words, notes)] if of else []
 
 

@@ -2,15 +2,16 @@
 that call pthread locks, and those with locks of other kinds. What a shell is told to run by `-c` is looked at too, as far as that is
 plain. What other programs start isn't known here.
 
-`finish` knows whether a Python that was started is among those that were recorded: by the words that both have."""
+`started` knows whether a Python that was started is among those that were recorded: by the words that both have."""
 import os
 import sys
 
-from . import recording
+from . import ends, log, places
 
 NOTED = frozenset(("subprocess.Popen", "os.exec", "os.posix_spawn", "os.system"))
 PYTHON, PTHREAD, JAVA = "python", "pthread", "java"
-MOST_WORDS, LONGEST_WORD = 32, 200  # of a command, how many of the last are noted, and how much of each
+MOST_WORDS = 32  # of a command, how many of the last are noted
+LONGEST_WORD = 200  # how much of each
 MOST_READ = 8000000  # of a program's file: the names of what it calls lie near its beginning
 SYSTEM = ("/bin/", "/sbin/", "/lib/", "/lib32/", "/lib64/", "/libx32/", "/usr/bin/", "/usr/sbin/", "/usr/lib/", "/usr/lib32/", "/usr/lib64/", "/usr/libx32/",
           "/usr/libexec/")
@@ -24,22 +25,22 @@ MARKS = ((b"\xff Go buildinf:", "go"), (b"lockdep_record for LOCKDEP_TRACES", "r
 OTHERS = (JAVA,) + tuple(kind for _, kind in MARKS)
 PRELOADED = "/out/preload.so"  # ends the path of the recorder of pthreads
 STOPS = frozenset(("if", "while", "until", "for", "case", "{", "function", "[[", "!"))
-HOOK = os.path.join(recording.own_folder, "hook")
+HOOK = os.path.join(places.own_folder, "hook")
 known = {}
 are_watched = False  # the locks of libraries, by the recorder of pthreads
-tell = recording.put
+tell = log.put
 
 
 def words_of(words):
     """Words as they are noted."""
-    return "\t".join(recording.visible(os.fsdecode(word)[:LONGEST_WORD]) for word in list(words)[-MOST_WORDS:])
+    return "\t".join(places.visible(os.fsdecode(word)[:LONGEST_WORD]) for word in list(words)[-MOST_WORDS:])
 
 
 def note_itself():
     """Notes the words that started this process."""
     with open("/proc/self/cmdline", "rb") as file:
         words = file.read().split(b"\0")[:-1]
-    recording.put("L %s\n" % words_of(words))
+    log.put("L %s\n" % words_of(words))
 
 
 def file_of(name, cwd, environment):
@@ -128,7 +129,7 @@ def note(name, words, cwd, environment, is_exact=True, is_sure=True):
         return
     if kind is None or reason == "none" or (kind is PYTHON and reason == "-" and not is_sure):
         return
-    tell("X %s %d %s %s\t%s\n" % (kind, is_exact, reason, recording.visible(path), words_of(words[1:])))
+    tell("X %s %d %s %s\t%s\n" % (kind, is_exact, reason, places.visible(path), words_of(words[1:])))
 
 
 def from_java(words):
@@ -179,7 +180,7 @@ def note_shell(text, cwd, environment):
 def note_event(event, words):
     """Something is started, as the hooks of `sys.addaudithook` hear of it. Errors never reach the program."""
     try:
-        if recording.process is None or recording.process.is_off:
+        if log.process is None or log.process.is_off:
             return
         if event == "os.system":
             note_shell(os.fsdecode(words[0]), None, None)
@@ -220,7 +221,7 @@ def is_of_interpreter(path):
 
 def library_lines():
     """A line for each library, of which `finish` looks whether it has locks: V if those of pthreads are recorded, else D."""
-    return "".join("%s %s\n" % ("V" if are_watched else "D", recording.visible(path)) for path in libraries())
+    return "".join("%s %s\n" % ("V" if are_watched else "D", places.visible(path)) for path in libraries())
 
 
 def find_watched():
@@ -246,7 +247,7 @@ def begin():
     global are_watched
     note_itself()
     are_watched = find_watched()
-    recording.at_end.append(library_lines)
+    ends.at_end.append(library_lines)
 
     def hears(event, words, noted=NOTED, note_event=note_event):
         if event in noted:

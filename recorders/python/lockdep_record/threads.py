@@ -5,23 +5,26 @@ import threading
 from _thread import get_ident
 from types import FunctionType, MethodType
 
-from . import recording
+from . import classes, log, places, recording, tasks
+from .classes import Lock as Record, Made, class_in, key_of, name_of, name_of_module
 from .locks import PATIENCE, put_in_place
-from .recording import (ENDED, STARTED, TIMED, WRITE, Lock as Record, Made, break_off, chain_of, class_in, gave, getframe,
-                        grant, key_of, name_of, name_of_module, not_granted, took, visible, wish)
+from .log import STARTED, TIMED, WRITE
+from .places import chain_of, getframe, visible
+from .recording import gave, took
+from .waits import begin_pending, break_off, grant, not_granted
 
 PREFIX = "thread:"  # before what a thread is known by
 WHOLE = -1  # in the place of an instruction: a function itself
 
 
 class Life:
-    """What is known of a thread: the class of what it runs, its task once it has taken a lock, and the lock that it is,
-    once that can matter."""
+    """What is known of a thread: the class of what it runs, its task once it has taken a lock, the lock that it is, once
+    that can matter, and who has waited for its end last."""
 
-    __slots__ = ("made", "process", "task", "record", "is_told")
+    __slots__ = ("made", "process", "task", "record", "is_told", "joiner")
 
     def __init__(self, made):
-        self.made, self.process, self.task, self.record, self.is_told = made, recording.process, None, None, False
+        self.made, self.process, self.task, self.record, self.is_told, self.joiner = made, log.process, None, None, False, None
 
 
 unused = {}  # of classes: the lock of a thread that took none after all
@@ -41,7 +44,7 @@ def function_of(thread):
 
 def is_of_program(function):
     name = function.__code__.co_filename
-    return (recording.kinds[name] if name in recording.kinds else recording.kind_of(name)) == recording.PLAIN
+    return (places.kinds[name] if name in places.kinds else places.kind_of(name)) == places.PLAIN
 
 
 def class_of(thread, frame):
@@ -51,7 +54,7 @@ def class_of(thread, frame):
     chain = ((function.__code__, WHOLE),) if function is not None else ()
     place = () if function is not None and is_of_program(function) else chain_of(frame)[-1:]
     key = (PREFIX,) + key_of(chain + place)
-    made = recording.classes.get(key)
+    made = classes.classes.get(key)
     if made is None:
         name = PREFIX + name_of_thread(function, frame, place)
         made = class_in(key, lambda number: Made(number, name, chain + place, STARTED))
@@ -69,14 +72,14 @@ def name_of_thread(function, frame, place):
 
 def note_start(thread, frame):
     """A thread is about to be started."""
-    if not recording.process.is_off:
+    if not log.process.is_off:
         vars(thread)["_lockdep_life"] = Life(class_of(thread, frame))
 
 
 def life_of(thread):
     """What is known of a thread that was started in this process."""
     life = vars(thread).get("_lockdep_life")
-    return life if life is not None and life.process is recording.process else None
+    return life if life is not None and life.process is log.process else None
 
 
 def begin_task(task):
@@ -99,16 +102,16 @@ def tell(life):
     """Writes which lock a thread is, once both its task and its lock have a number."""
     if life.record is not None and not life.is_told and life.task is not None and life.task.number:
         life.is_told = True
-        recording.declare(8 * life.record.key)
-        recording.put("T %d %d\n" % (life.task.number, life.record.key))
+        log.declare(8 * life.record.key)
+        log.put("T %d %d\n" % (life.task.number, life.record.key))
 
 
 def matters():
     """Whether it can matter that the running task waits for a thread: it holds something, or is a thread that may be
     joined itself. Of greenlets it isn't known whether they are threads."""
-    if recording.find_greenlet is not None or recording.process.is_off:
+    if tasks.find_greenlet is not None or log.process.is_off:
         return False
-    task = getattr(recording.here, "task", None) if recording.are_threads else recording.current()
+    task = getattr(log.here, "task", None) if recording.are_threads else tasks.current()
     if task is not None and task.held:
         return True
     thread = threading._active.get(get_ident())
@@ -117,7 +120,7 @@ def matters():
 
 def pass_end(life, mode):
     """A thread has ended, which took locks: it is taken and given back. That isn't among the program's operations."""
-    task = recording.current()
+    task = tasks.current()
     took(record_of(life), mode)
     gave(life.record, None)
     task.operations -= 2
@@ -126,7 +129,7 @@ def pass_end(life, mode):
 def join_long(thread, life, real_join, timeout):
     """Waits for a thread that goes on, by its real method: that is noted before. Without a timeout it is -1."""
     mode = WRITE if timeout < 0 else TIMED
-    wish(record_of(life), mode=mode)
+    begin_pending(record_of(life), mode=mode)
     try:
         real_join(thread, None if timeout < 0 else timeout)
     except BaseException:
@@ -136,7 +139,7 @@ def join_long(thread, life, real_join, timeout):
         not_granted(life.record)
     elif grant(life.record):
         gave(life.record, None)
-        recording.current().operations -= 2
+        tasks.current().operations -= 2
     else:
         pass_end(life, mode)
     if life.task is None:
@@ -153,11 +156,17 @@ def replace_threads():
         real_start(self)
 
     def join(self, timeout=None):
-        life = life_of(self)
+        life, joiner = life_of(self), threading._active.get(get_ident())
+        if life is None or not matters() or (life.joiner is joiner and joiner is not None):
+            real_join(self, timeout)
+        else:
+            join_recorded(self, life, timeout)
+        if life is not None and not self.is_alive():
+            life.joiner = joiner  # who never waits for this thread again
+
+    def join_recorded(self, life, timeout):
         is_long = timeout is None or isinstance(timeout, (int, float)) and timeout > PATIENCE
-        if life is None or not matters():
-            return real_join(self, timeout)
-        mode = TIMED if timeout is not None else WRITE if self.is_alive() else ENDED
+        mode = TIMED if timeout is not None else WRITE
         real_join(self, PATIENCE if is_long else timeout)
         if self.is_alive():
             return join_long(self, life, real_join, -1 if timeout is None else timeout - PATIENCE) if is_long else None
@@ -166,4 +175,4 @@ def replace_threads():
         return None
 
     put_in_place(real, start, join)
-    recording.begin_task, recording.tell_life = begin_task, tell
+    tasks.begin_task, log.tell_life = begin_task, tell

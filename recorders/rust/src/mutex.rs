@@ -1,5 +1,5 @@
 //! `Mutex` and its guard.
-use crate::recording::{failed_try, gave, took, tries_a_little, wish, Mark, Mode, Token};
+use crate::recording::{begin_pending, failed_try, gave, took, tries_a_little, Mark, Mode, Token};
 use std::any::type_name;
 use std::fmt;
 use std::mem::ManuallyDrop;
@@ -49,9 +49,9 @@ impl<T: ?Sized> Mutex<T> {
         if let Some(result) = tries_a_little(|| self.tried()) {
             return self.guarded(result, took(&self.mark, Mode::Write, place));
         }
-        let wish = wish(&self.mark, Mode::Write, place);
+        let pending = begin_pending(&self.mark, Mode::Write, place);
         let result = self.real.lock();
-        self.guarded(result, wish.granted())
+        self.guarded(result, pending.granted())
     }
 
     #[track_caller]

@@ -1,5 +1,5 @@
 //! `RwLock` and its guards. A reader is `r`: std leaves open whether readers wait behind a waiting writer, and on Linux they do.
-use crate::recording::{failed_try, gave, took, tries_a_little, wish, Mark, Mode, Token};
+use crate::recording::{begin_pending, failed_try, gave, took, tries_a_little, Mark, Mode, Token};
 use std::any::type_name;
 use std::fmt;
 use std::mem::ManuallyDrop;
@@ -104,9 +104,9 @@ impl<T: ?Sized> RwLock<T> {
         if let Some(result) = tried(tries()).or_else(|| tries_a_little(|| tried(tries()))) {
             return (result, took(&self.mark, mode, place));
         }
-        let wish = wish(&self.mark, mode, place);
+        let pending = begin_pending(&self.mark, mode, place);
         let result = waits();
-        (result, wish.granted())
+        (result, pending.granted())
     }
 
     /// The result of a try, which is noted if it failed.

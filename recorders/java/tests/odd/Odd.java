@@ -6,17 +6,18 @@ import java.util.List;
 import java.util.Random;
 import java.util.function.Consumer;
 
-import org.objectweb.asm.Attribute;
-import org.objectweb.asm.ByteVector;
-import org.objectweb.asm.ClassWriter;
-import org.objectweb.asm.Handle;
-import org.objectweb.asm.Label;
-import org.objectweb.asm.MethodVisitor;
-import org.objectweb.asm.Opcodes;
+import jdk.internal.org.objectweb.asm.Attribute;
+import jdk.internal.org.objectweb.asm.ByteVector;
+import jdk.internal.org.objectweb.asm.ClassWriter;
+import jdk.internal.org.objectweb.asm.Handle;
+import jdk.internal.org.objectweb.asm.Label;
+import jdk.internal.org.objectweb.asm.MethodVisitor;
+import jdk.internal.org.objectweb.asm.Opcodes;
 
 /**
  * Makes class files that no compiler makes, and that the virtual machine accepts: by hand, and at random. Each has a
- * method `run`, and a constructor that it calls: Odd FOLDER COUNT. The classes' names are printed.
+ * method `run`, and a constructor that it calls: Odd FOLDER COUNT. The classes' names are printed. They are written by
+ * the JDK's own copy of ASM, which it has up to version 23.
  */
 public final class Odd implements Opcodes {
     private static final String OBJECT = "java/lang/Object";

@@ -27,13 +27,13 @@ def begin(package):
         if plan:
             from lockdep_record import provoke
         else:
-            from lockdep_record import locks
+            from lockdep_record import beginning
     finally:
         sys.path.remove(package)
     if plan:
         provoke.begin(plan, os.environ["LOCKDEP_PROVOKE_TABLE"])
     else:
-        locks.begin(os.environ["LOCKDEP_PYTHON"], code.startswith(FORK_SERVER))
+        beginning.begin(os.environ["LOCKDEP_PYTHON"], code.startswith(FORK_SERVER))
 
 
 # This folder leaves the path in any case, as if it had never been there: the recording may be over, and a process that began in it not.

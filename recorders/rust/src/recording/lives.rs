@@ -1,11 +1,11 @@
 //! Threads that are joined. To who joins it, a thread is a lock that it has from its start to its end, and that is taken and given back
-//! at once. What of this can matter is found out when the traces are made (tool/lockdep/joins.py).
+//! at once. What of this can matter is found out when the traces are made (tool/lockdep/finish/joins.py).
 use super::names::Mark;
-use super::task::{end_with_thread, has_joined, joins, may_join, takings, wishes_to_join, Mode, Wish};
+use super::task::{begin_join, end_with_thread, has_joined, joins, may_join, Mode, Pending};
 use super::tries_a_little;
 use std::cell::Cell;
 use std::panic::Location;
-use std::sync::atomic::{AtomicBool, AtomicU32, Ordering};
+use std::sync::atomic::{AtomicBool, Ordering};
 use std::sync::{Arc, Condvar, Mutex, MutexGuard, PoisonError};
 
 /// How far a thread is: its function runs or has returned, or the destructors of its thread-local values have run too. A join waits for
@@ -22,8 +22,6 @@ pub struct Life {
     mark: Mark,
     process: u32,
     has_begun: AtomicBool,
-    takings: AtomicU32,
-    took_late: AtomicBool,
     stage: Mutex<Stage>,
     change: Condvar,
 }
@@ -44,8 +42,6 @@ impl Life {
             mark: Mark::of_thread(place),
             process: std::process::id(),
             has_begun: AtomicBool::new(false),
-            takings: AtomicU32::new(0),
-            took_late: AtomicBool::new(false),
             stage: Mutex::new(Stage::Runs),
             change: Condvar::new(),
         }
@@ -89,11 +85,6 @@ impl Life {
     fn may_take(&self) -> bool {
         self.stage() < Stage::Ended || self.has_begun.load(Ordering::Acquire)
     }
-
-    /// Whether nothing that the thread took could be waited for any more by who found it at one stage and waited for another.
-    fn had_ended(&self, found: Stage, awaited: Stage) -> bool {
-        found >= awaited || (found == Stage::Returned && !self.took_late.load(Ordering::Acquire))
-    }
 }
 
 /// The time in which a thread's function runs, in that thread.
@@ -110,17 +101,15 @@ impl Running {
 
 impl Drop for Running {
     fn drop(&mut self) {
-        self.0.takings.store(takings(), Ordering::Relaxed);
         self.0.reach(Stage::Returned);
     }
 }
 
-/// The running thread is at its end, after so many acquisitions.
-pub fn end_own_life(takings: u32) {
+/// The running thread is at its end.
+pub fn end_own_life() {
     let own = OWN.replace(std::ptr::null());
     if !own.is_null() {
         let life = unsafe { Arc::from_raw(own) };
-        life.took_late.store(life.takings.load(Ordering::Relaxed) != takings, Ordering::Release);
         life.reach(Stage::Ended);
     }
 }
@@ -136,22 +125,17 @@ fn waits_until(life: &Life, stage: Stage, place: &'static Location<'static>) {
     if !may_join() {
         return;
     }
-    let found = life.stage();
     let is_there = || (life.stage() >= stage).then_some(());
-    let mut wish: Option<Wish> = None;
-    if found < stage && tries_a_little(is_there).is_none() {
-        wish = Some(wishes_to_join(&life.mark, place));
+    let mut pending: Option<Pending> = None;
+    if tries_a_little(is_there).is_none() {
+        pending = Some(begin_join(&life.mark, place));
         life.wait_until(stage);
     }
     if !life.may_take() {
         return;
     }
-    if life.had_ended(found, stage) {
-        drop(wish);
-        return joins(&life.mark, Mode::EndedThread, place);
-    }
-    match wish {
-        Some(wish) => has_joined(wish),
+    match pending {
+        Some(pending) => has_joined(pending),
         None => joins(&life.mark, Mode::Write, place),
     }
 }

@@ -7,7 +7,7 @@ mod task;
 
 pub use lives::{joined, Life, Lives, Running};
 pub use names::Mark;
-pub use task::{failed_try, gave, holds_something, took, wish, Mode, Token};
+pub use task::{begin_pending, failed_try, gave, holds_something, took, Mode, Token};
 
 /// How often a lock is tried for before the thread waits for it, which has to be written: first at once, and then after other threads
 /// had a turn.

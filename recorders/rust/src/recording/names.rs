@@ -28,13 +28,7 @@ const IS_SETTLED: u32 = 1 << 31;
 const MOST_APART: u32 = 32;
 const MOST_APART_ALONE: u32 = 8;
 
-/// How long a class's name may be, so that there is room for a lock's number after it.
-const MOST_NAME: usize = 53;
-
-/// How much room is left for a type if the whole place is kept.
-const MIN_TYPE: usize = 20;
-
-/// What the names of threads' classes begin with, and the part of these that isn't the place.
+/// The part of threads' classes that isn't the place.
 const THREAD: &str = "thread:";
 
 impl Mark {
@@ -78,20 +72,15 @@ impl Mark {
         let found = NAMES.with(|names| {
             let key = self.key.load(Ordering::Relaxed);
             if key & IS_SETTLED != 0 || (key != 0 && !is_nested) {
-                return Some((key & !IS_SETTLED, None)); // (another thread was faster)
+                return Some(key & !IS_SETTLED); // (another thread was faster)
             }
-            let known = names.classes.len();
             let class = names.class_of(self)?;
             let key = names.key_in(class, is_nested);
             let is_settled = key != names.classes[class].rest || is_nested;
             self.key.store(if is_settled { key | IS_SETTLED } else { key }, Ordering::Relaxed);
-            Some((key, (class == known).then(|| line_of_class(&names.classes[class]))))
+            Some(key)
         });
-        let Some((key, line)) = found.flatten() else { return 0 };
-        if let Some(line) = line {
-            process::tell_class(&line);
-        }
-        key
+        found.flatten().unwrap_or(0)
     }
 
     /// The part of a class's name that isn't its place: the type, if locks of one place may have different types.
@@ -115,22 +104,27 @@ struct Class {
     part: &'static str,
     rest: u32,
     ordinals: u32,
+    is_told: bool,
 }
 
 #[derive(Clone, Copy)]
 struct Key {
     class: u32,
     ordinal: u32,
+    is_told: bool,
 }
 
-/// The classes and locks of this process. Keys are counted from 1.
+/// The classes and locks of this process, and the places that its file has. Keys are counted from 1. What is told is in the file, or about to be.
 pub struct Names {
     classes: List<Class>,
     by_content: Table,
     keys: List<Key>,
+    places: Table,
+    place_count: u32,
 }
 
-pub static NAMES: Shared<Names> = Shared::new(Names { classes: List::new(), by_content: Table::new(), keys: List::new() });
+pub static NAMES: Shared<Names> =
+    Shared::new(Names { classes: List::new(), by_content: Table::new(), keys: List::new(), places: Table::new(), place_count: 0 });
 
 impl Names {
     /// The class of a lock. (Several places in memory may say the same.)
@@ -146,7 +140,7 @@ impl Names {
         }
         let class = self.classes.len();
         let rest = self.add_key(class, 0)?;
-        let new = Class { place: mark.place, part, rest, ordinals: 0 };
+        let new = Class { place: mark.place, part, rest, ordinals: 0, is_told: false };
         (self.classes.push(new) && self.by_content.set(content, class as u32)).then_some(class)
     }
 
@@ -166,14 +160,47 @@ impl Names {
     }
 
     fn add_key(&mut self, class: usize, ordinal: u32) -> Option<u32> {
-        self.keys.push(Key { class: class as u32, ordinal }).then_some(self.keys.len() as u32)
+        self.keys.push(Key { class: class as u32, ordinal, is_told: false }).then_some(self.keys.len() as u32)
     }
 
-    /// Adds a lock in the form of the files: the name of its class, and its number among the locks of that class, or 0.
-    pub fn add_lock(&self, text: &mut Text, key: u32) {
-        let Key { class, ordinal } = self.keys[key as usize - 1];
-        add_name(text, &self.classes[class as usize]);
-        let _ = write!(text, " {ordinal}");
+    /// Adds a lock and its class to what is told, if they weren't yet.
+    pub fn tell(&mut self, told: &mut Text, key: u32) {
+        let Key { class, ordinal, is_told } = self.keys[key as usize - 1];
+        if is_told {
+            return;
+        }
+        self.keys[key as usize - 1].is_told = true;
+        let known = self.classes[class as usize];
+        self.classes[class as usize].is_told = true;
+        if !known.is_told {
+            add_class(told, class + 1, &known);
+        }
+        let _ = writeln!(told, "K {key} {} {ordinal}", class + 1);
+    }
+
+    /// The number of a place, which is told if it wasn't yet. 0 if there is no memory for it.
+    pub fn tell_place(&mut self, told: &mut Text, place: &'static Location<'static>) -> u32 {
+        let at = std::ptr::from_ref(place) as u64; // (the same place may have two numbers)
+        if let Some(number) = self.places.get(at) {
+            return number;
+        }
+        let number = self.place_count + 1;
+        if !self.places.set(at, number) {
+            return 0;
+        }
+        self.place_count = number;
+        let _ = write!(told, "P {number}\t");
+        add_place(told, place);
+        told.add(b"\n");
+        number
+    }
+
+    /// The file of a forked process has nothing yet.
+    pub fn forget_told(&mut self) {
+        self.keys.iter_mut().for_each(|key| key.is_told = false);
+        self.classes.iter_mut().for_each(|class| class.is_told = false);
+        self.places = Table::new();
+        self.place_count = 0;
     }
 }
 
@@ -188,95 +215,21 @@ fn hash_of(bytes: &[u8]) -> u32 {
     bytes.iter().fold(0x811C_9DC5, |hash, &byte| (hash ^ u32::from(byte)).wrapping_mul(0x0100_0193))
 }
 
-/// The part after which the path of a crate that isn't the program's own is the same on each machine.
-const FOLDERS: [(&str, bool); 4] =
-    [("/registry/src/", true), ("/git/checkouts/", true), ("/cargo/registry/", false), ("/vendor/", false)];
-
-/// A file in the form that names have: for a crate from elsewhere, the part that is the same on each machine. (Cargo has its own folder between.)
-fn short(file: &str) -> &str {
-    if is_of_library(file) {
-        return file.find("/library/").map_or(file, |at| &file[at + "/library/".len()..]);
-    }
-    for (folder, has_another) in FOLDERS {
-        if let Some((_, path)) = file.split_once(folder).filter(|_| file.starts_with('/')) {
-            return path.split_once('/').filter(|_| has_another).map_or(path, |(_, rest)| rest);
-        }
-    }
-    file
-}
-
-/// Adds a type's name: for Rust's own types, the last two parts of their paths. (There would be spaces between arguments.)
-fn add_type(text: &mut Text, name: &str) {
-    let mut rest = name;
-    while !rest.is_empty() {
-        let length = rest.find(|letter: char| !letter.is_alphanumeric() && letter != '_' && letter != ':').unwrap_or(rest.len());
-        let (path, after) = rest.split_at(length);
-        let is_own = ["std::", "core::", "alloc::"].iter().any(|start| path.starts_with(start));
-        let cut = path.rmatch_indices("::").nth(1).filter(|_| is_own).map_or(0, |(at, _)| at + 2);
-        text.add(&path.as_bytes()[cut..]);
-        let letter = after.chars().next().map_or(0, char::len_utf8);
-        text.add(after[..letter].trim_start().as_bytes());
-        rest = &after[letter..];
-    }
-}
-
-/// Adds a text in the form that names have. What stands before an `@` would be read as a type of locks, so one of a path is written as `%40`.
-fn add_visible(text: &mut Text, bytes: &[u8]) {
-    for &byte in bytes {
-        match byte {
-            b',' => text.add(b";"),
-            b'@' => text.add(b"%40"),
-            b'!' | b'#'..=b'~' => text.add(&[byte]),
-            _ => text.add(b"_"),
-        }
-    }
-}
-
-/// Adds a class's name: `FILE:LINE:COLUMN`, with the type if that belongs to it. If it is too long, the end of the place is kept, or the
-/// place and the beginning of the type.
-fn add_name(text: &mut Text, class: &Class) {
+/// Adds a class's line. What it is called in traces is found out when these are made (tool/lockdep/finish/class_names.py).
+fn add_class(told: &mut Text, number: u32, class: &Class) {
+    let _ = write!(told, "C {number}\t");
+    add_place(told, class.place);
+    let _ = write!(told, ":{}\t", class.place.column());
+    add_place(told, class.place);
     if class.part == THREAD {
-        text.add(THREAD.as_bytes());
-        return add_place_and_type(text, class.place, "", MOST_NAME - THREAD.len());
-    }
-    add_place_and_type(text, class.place, class.part, MOST_NAME)
-}
-
-fn add_place_and_type(text: &mut Text, place: &Location<'_>, part: &str, most: usize) {
-    let mut whole = Text::new();
-    let _ = write!(whole, "{}:{}:{}", short(place.file()), place.line(), place.column());
-    let has_room = whole.bytes.len() + MIN_TYPE < most && !part.is_empty();
-    if !part.is_empty() {
-        whole.add(b"<");
-        add_type(&mut whole, part);
-        whole.add(b">");
-    }
-    let mut visible = Text::new();
-    add_visible(&mut visible, &whole.bytes);
-    let (length, hash) = (visible.bytes.len(), hash_of(&visible.bytes));
-    if length <= most {
-        text.add(&visible.bytes);
-    } else if has_room {
-        text.add(&visible.bytes[..most - 9]);
-        let _ = write!(text, "~{hash:08x}");
+        told.add(b"\tstarted\n");
     } else {
-        let _ = write!(text, "{hash:08x}~");
-        text.add(&visible.bytes[length - (most - 9)..]);
+        let _ = writeln!(told, "\tmade in\t{}", class.part);
     }
-}
-
-/// A class's line in the file of classes.
-fn line_of_class(class: &Class) -> Text {
-    let mut line = Text::new();
-    add_name(&mut line, class);
-    line.add(b"\t");
-    add_place(&mut line, class.place);
-    line.add(b"\n");
-    line
 }
 
 /// Adds a place, `FILE:LINE`.
-pub fn add_place(text: &mut Text, place: &Location<'_>) {
+fn add_place(text: &mut Text, place: &Location<'_>) {
     for byte in place.file().bytes() {
         text.add(&[if byte < b' ' { b'?' } else { byte }]);
     }

@@ -1,11 +1,6 @@
-//! This process, and its files. They are in FOLDER/raw, where FOLDER is what LOCKDEP_TRACES says, or `lockdep-traces`:
-//!
-//! - TIME-PID says what was counted, `NAME COUNT` in each line;
-//! - TIME-PID-classes has a line for each class: its name, a tab, `FILE:LINE`;
-//! - TIME-PID-NUMBER has the records of a thread: `A CLASS NUMBER MODE FILE:LINE` for an acquisition, `W ..` for one that is waited
-//!   for, `G` if what was waited for last is there, `R CLASS NUMBER` for a release, and `E` at the end of the thread.
-//!   If the thread has a name, `N NAME` is the first of them, and then comes `T CLASS NUMBER` if it may be joined: it is this lock. A
-//!   join takes it and releases it at once.
+//! This process, and its files, in the form of recorders/log.md. They are in FOLDER/raw, where FOLDER is what LOCKDEP_TRACES says, or
+//! `lockdep-traces`: TIME-PID has the process, its classes, locks and places, TIME-PID-counts what was counted, and TIME-PID-NUMBER the records
+//! of a thread.
 //!
 //! A file is opened for each write, so that the program has no open file that it doesn't know about.
 use super::names::NAMES;
@@ -60,6 +55,8 @@ pub struct Process {
     folder: Text,
     prefix: Text,
     program: Text,
+    began: u128,
+    has_file: bool,
     pub tasks: *mut Task,
     pub foreign: List<(u32, u32)>,
     counts: [u64; COUNTS],
@@ -74,6 +71,8 @@ pub static PROCESS: Shared<Process> = Shared::new(Process {
     folder: Text::new(),
     prefix: Text::new(),
     program: Text::new(),
+    began: 0,
+    has_file: false,
     tasks: std::ptr::null_mut(),
     foreign: List::new(),
     counts: [0; COUNTS],
@@ -135,6 +134,9 @@ fn begin_in_child() -> bool {
     let was_taken = PROCESS.is_taken() || NAMES.is_taken();
     PROCESS.free();
     TURN.free();
+    if !was_taken {
+        NAMES.with(|names| names.forget_told());
+    }
     if was_taken {
         STATE.store(OFF, Ordering::Relaxed);
     }
@@ -182,10 +184,11 @@ impl Process {
 
     /// Names the files of this process.
     fn begin_files(&mut self) -> bool {
-        let now = SystemTime::now().duration_since(UNIX_EPOCH).map_or(0, |time| time.as_nanos());
+        self.began = SystemTime::now().duration_since(UNIX_EPOCH).map_or(0, |time| time.as_nanos());
+        self.has_file = false;
         self.prefix.bytes.truncate(0);
         self.prefix.add(&self.folder.bytes);
-        let _ = write!(self.prefix, "/raw/{now:019}-{}", std::process::id());
+        let _ = write!(self.prefix, "/raw/{:019}-{}", self.began, std::process::id());
         self.prefix.is_whole && self.folder.is_whole
     }
 
@@ -205,7 +208,7 @@ impl Process {
         path
     }
 
-    /// What was counted so far, and the program, which has the same length each time.
+    /// What was counted so far, which has the same length each time.
     fn counts_as_text(&self) -> Text {
         let mut counts = self.counts;
         let mut task = self.tasks;
@@ -219,9 +222,15 @@ impl Process {
         }
         let mut text = Text::new();
         for (name, count) in COUNT_NAMES.iter().zip(counts) {
-            let _ = writeln!(text, "{name} {count:020}");
+            let _ = writeln!(text, "S {name} {count:020}");
         }
-        text.add(b"program ");
+        text
+    }
+
+    /// The first lines of the file: the process, and its program.
+    fn head(&self) -> Text {
+        let mut text = Text::new();
+        let _ = write!(text, "process {} {}\nF ", std::process::id(), self.began);
         for &byte in self.program.bytes.iter() {
             text.add(&[if byte == b'\n' { b'?' } else { byte }]);
         }
@@ -296,13 +305,14 @@ fn open(path: &Text) -> Option<File> {
     OpenOptions::new().write(true).open(path_of(path)).ok()
 }
 
-/// Whose turn it is to write what was counted, so that no older counts come after newer ones.
+/// Whose turn it is to write what all threads share, so that no older counts come after newer ones, and the file of the process is begun once.
 static TURN: Shared<()> = Shared::new(());
 
 /// Writes what was counted so far.
 pub fn put_counts() {
     TURN.with(|()| {
-        let written = PROCESS.with(|process| (process.path(format_args!("")), process.counts_as_text()));
+        begin_file();
+        let written = PROCESS.with(|process| (process.path(format_args!("-counts")), process.counts_as_text()));
         if let Some((path, text)) = written {
             if let Some(file) = open(&path).or_else(|| make(&path)) {
                 let _ = file.write_all_at(&text.bytes, 0);
@@ -311,19 +321,34 @@ pub fn put_counts() {
     });
 }
 
-/// Adds a line to the file of classes.
-pub fn tell_class(line: &Text) {
-    if let Some(path) = PROCESS.with(|process| process.path(format_args!("-classes"))) {
-        drop(make(&path));
-        if let Ok(mut file) = OpenOptions::new().append(true).open(path_of(&path)) {
-            let _ = file.write_all(&line.bytes);
-        }
+/// Adds lines to the file of the process. False if that can't be done.
+pub fn tell(lines: &Text) -> bool {
+    if PROCESS.with(|process| process.has_file) == Some(false) {
+        TURN.with(|()| begin_file());
     }
+    let path = PROCESS.with(|process| process.path(format_args!("")));
+    lines.is_whole && path.is_some_and(|path| append(&path, lines))
+}
+
+/// Begins the file, unless that was done. (It is the thread's turn.)
+fn begin_file() {
+    let first = PROCESS.with(|process| (!process.has_file).then(|| (process.path(format_args!("")), process.head())));
+    if let Some((path, head)) = first.flatten() {
+        drop(make(&path));
+        append(&path, &head);
+        PROCESS.with(|process| process.has_file = true);
+    }
+}
+
+/// Adds lines to a file that several threads write.
+fn append(path: &Text, lines: &Text) -> bool {
+    OpenOptions::new().append(true).open(path_of(path)).is_ok_and(|mut file| file.write_all(&lines.bytes).is_ok())
 }
 
 /// The file of a thread.
 pub struct Trace {
     path: Text,
+    pub number: u32,
     pub length: u64,
 }
 
@@ -332,7 +357,7 @@ impl Trace {
     pub fn new() -> Option<Trace> {
         PROCESS.with(|process| {
             process.files += 1;
-            Trace { path: process.path(format_args!("-{:06}", process.files)), length: 0 }
+            Trace { path: process.path(format_args!("-{:06}", process.files)), number: process.files, length: 0 }
         })
     }
 

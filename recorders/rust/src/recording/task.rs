@@ -4,28 +4,30 @@
 //! nothing in a way in which its thread hadn't taken it before, is dropped. A way is the held locks and the new one, in their order: a
 //! node of a tree, of which each thread has its own. What is new is written at once, unless many threads did the same.
 use super::lives::{end_own_life, own_life, Life};
-use super::names::{add_place, Mark, NAMES};
+use super::names::Mark;
 use super::process::{self, Trace, COUNTS, PROCESS};
-use super::store::{mixed, List, Table, Text};
+use super::store::{mixed, List, Table};
 use std::alloc::{GlobalAlloc, Layout, System};
 use std::cell::Cell;
 use std::panic::Location;
 use std::sync::atomic::{compiler_fence, AtomicBool, AtomicU64, Ordering};
 
-/// How a lock is taken. `EndedThread`: a thread is joined that has ended.
+mod calls;
+mod writing;
+
+pub use calls::{begin_join, begin_pending, failed_try, gave, has_joined, holds_something, joins, may_join, took, Pending};
+
+/// How a lock is taken.
 #[derive(Clone, Copy, PartialEq)]
 pub enum Mode {
     Write = 0,
     Read = 1,
     TryWrite = 2,
     TryRead = 3,
-    EndedThread = 4,
 }
 
-const MODES: [&[u8]; MODE_COUNT as usize] = [b" w ", b" r ", b" tw ", b" tr ", b" e "];
-const MODE_COUNT: u32 = 5;
+const MODE_COUNT: u32 = 4;
 const MOST_HELD: usize = 48;
-const MOST_NAME: usize = 64;
 const MOST_EVENTS: u64 = 1_000_000 - 2 * MOST_HELD as u64;
 
 /// After how many operations of a thread its counts are written.
@@ -133,7 +135,7 @@ struct Guard;
 
 impl Drop for Guard {
     fn drop(&mut self) {
-        end_own_life(takings()); // (first, since the program's allocator, which it uses, may take locks)
+        end_own_life(); // (first, since the program's allocator, which it uses, may take locks)
         end_here();
     }
 }
@@ -142,11 +144,6 @@ impl Drop for Guard {
 /// it is at its end already.
 pub fn end_with_thread() -> bool {
     GUARD.try_with(|_| ()).is_ok()
-}
-
-/// How many acquisitions of the running thread were recorded.
-pub fn takings() -> u32 {
-    unsafe { HERE.get().as_ref() }.map_or(0, |task| task.numbers)
 }
 
 /// What the running thread has, in a forked process.
@@ -254,114 +251,6 @@ fn end_here() {
         here.drop_in_place();
         System.dealloc(here.cast(), Layout::new::<Task>());
     }
-}
-
-// ---- What locks call.
-
-/// The running thread has taken a lock.
-#[inline]
-pub fn took(mark: &Mark, mode: Mode, place: Place) -> Token {
-    with_task(|task| {
-        task.count_operation();
-        task.hold(mark, mode, place, false)
-    })
-    .unwrap_or(LEFT_OUT)
-}
-
-/// The running thread is about to release a lock.
-#[inline]
-pub fn gave(token: Token) {
-    if token != LEFT_OUT {
-        let is_late = with_task(|task| {
-            task.give(token);
-            task.is_late && task.count == 0
-        });
-        if is_late == Some(true) {
-            end_here();
-        }
-    }
-}
-
-/// A try failed. One that is immediately repeated, with other locks held, is a way of waiting that no trace shows.
-#[inline]
-pub fn failed_try(mark: &Mark) {
-    with_task(|task| {
-        if task.count > 0 && std::ptr::eq(task.failed, mark) {
-            task.lose(process::RETRIED_TRIES);
-        }
-        task.failed = mark;
-    });
-}
-
-/// A lock that the running thread is about to wait for. It is written before the thread waits if others are held, or if it is new.
-pub struct Wish(Token);
-
-#[cold]
-pub fn wish(mark: &Mark, mode: Mode, place: Place) -> Wish {
-    Wish(
-        with_task(|task| {
-            task.count_operation();
-            task.hold_by_waiting(mark, mode, place)
-        })
-        .unwrap_or(LEFT_OUT),
-    )
-}
-
-impl Wish {
-    /// The thread got what it waited for.
-    pub fn granted(self) -> Token {
-        let token = self.0;
-        std::mem::forget(self);
-        if token != LEFT_OUT {
-            with_task(|task| task.end_waiting());
-        }
-        token
-    }
-}
-
-impl Drop for Wish {
-    /// The thread didn't get what it waited for, for example because the call panicked.
-    fn drop(&mut self) {
-        if self.0 != LEFT_OUT {
-            with_task(|task| {
-                task.waits = false;
-                task.withdraw(self.0);
-            });
-        }
-    }
-}
-
-/// The running thread joins another one: it takes what that is, and gives it back at once. That isn't counted as an operation.
-pub fn joins(mark: &Mark, mode: Mode, place: Place) {
-    with_task(|task| {
-        let token = task.hold(mark, mode, place, false);
-        task.give_back_own(token);
-    });
-}
-
-/// The running thread is about to wait for the end of another one.
-#[cold]
-pub fn wishes_to_join(mark: &Mark, place: Place) -> Wish {
-    Wish(with_task(|task| task.hold_by_waiting(mark, Mode::Write, place)).unwrap_or(LEFT_OUT))
-}
-
-/// That thread has ended.
-pub fn has_joined(wish: Wish) {
-    let token = wish.granted();
-    if token != LEFT_OUT {
-        with_task(|task| task.give_back_own(token));
-    }
-}
-
-/// Whether the running thread holds something.
-#[inline]
-pub fn holds_something() -> bool {
-    unsafe { HERE.get().as_ref() }.is_some_and(|task| task.count > 0)
-}
-
-/// Whether it matters that the running thread joins another one: it holds something, or may be joined itself.
-pub fn may_join() -> bool {
-    holds_something() || !own_life().is_null() || unsafe { HERE.get().as_ref() }.is_some_and(|task| task.life != 0)
 }
 
 // ---- The records.
@@ -653,151 +542,4 @@ impl Task {
         self.end_early();
         LEFT_OUT
     }
-}
-
-// ---- The file.
-
-impl Task {
-    /// Writes what isn't written yet.
-    fn flush(&mut self) {
-        if self.is_over || !process::is_on() {
-            return;
-        }
-        let mut text = Text::new();
-        let is_forked = self.pid != std::process::id();
-        if is_forked || self.trace.as_ref().is_none_or(|trace| trace.length == 0) {
-            add_name(&mut text);
-            if !is_forked {
-                self.add_life(&mut text);
-            }
-        }
-        let begin = text.bytes.len();
-        if is_forked {
-            self.begin_in_child(&mut text);
-        }
-        if self.trace.is_none() {
-            self.trace = Trace::new();
-        }
-        let length = self.trace.as_ref().map_or(0, |trace| trace.length);
-        let is_formed = NAMES.with(|names| {
-            for at in 0..self.records.len() {
-                self.note_offset(at, length + text.bytes.len() as u64);
-                let is_wish = self.waits && at + 1 == self.records.len();
-                add_record(&mut text, names, self.records[at], is_wish);
-            }
-        });
-        if text.bytes.len() == begin && is_formed.is_some() {
-            return;
-        }
-        if is_formed.is_none() || !self.trace.as_mut().is_some_and(|trace| trace.add(&text)) {
-            return self.end_early();
-        }
-        self.base += self.records.len() as u64;
-        self.records.truncate(0);
-        self.note_told();
-    }
-
-    /// Notes where in the file a record begins, for the locks whose stretches begin with it.
-    fn note_offset(&mut self, at: usize, offset: u64) {
-        let record = self.base + at as u64;
-        for held in self.held[..self.count].iter_mut().filter(|held| held.start == record) {
-            held.offset = offset;
-        }
-    }
-
-    /// Notes what is held by the file, for a process that may be forked.
-    fn note_told(&mut self) {
-        self.told.truncate(0);
-        for held in &self.held[..self.count] {
-            self.told.push(Record { code: held.code, place: Some(held.place) });
-        }
-    }
-
-    /// Begins the file of a process that was forked with what was held.
-    fn begin_in_child(&mut self, text: &mut Text) {
-        self.pid = std::process::id();
-        self.trace = None;
-        self.life = 0; // (nobody there joins it)
-        for held in &mut self.held[..self.count] {
-            held.offset = NOWHERE;
-        }
-        NAMES.with(|names| {
-            for &record in self.told.iter() {
-                add_record(text, names, record, false);
-            }
-        });
-    }
-
-    /// Begins the file of a thread that may be joined with what it is itself.
-    fn add_life(&self, text: &mut Text) {
-        if self.life != 0 {
-            text.add(b"T ");
-            NAMES.with(|names| names.add_lock(text, self.life));
-            text.add(b"\n");
-        }
-    }
-
-    /// The thread got what it waited for: that is written if the wait was.
-    fn end_waiting(&mut self) {
-        self.waits = false;
-        let is_told = self.count > 0 && self.held[self.count - 1].start < self.base && !self.is_over;
-        if is_told && process::is_on() && self.pid == std::process::id() {
-            let mut text = Text::new();
-            text.add(b"G\n");
-            if !self.trace.as_mut().is_some_and(|trace| trace.add(&text)) {
-                self.end_early();
-            }
-        }
-    }
-
-    /// Writes what is left at the thread's end, unless many threads did nothing else.
-    fn finish(&mut self) {
-        if self.is_over {
-            return;
-        }
-        if self.trace.is_none() || self.pid != std::process::id() {
-            let is_alike = !self.records.is_empty() && self.trace.is_none();
-            self.add(process::ALIKE, u64::from(is_alike));
-            return;
-        }
-        self.say_end();
-    }
-
-    /// Writes what is left and that it is the end, if the thread has a file.
-    fn say_end(&mut self) {
-        if self.is_over || self.trace.is_none() || self.pid != std::process::id() {
-            return;
-        }
-        self.flush();
-        let mut text = Text::new();
-        text.add(b"E\n");
-        if let Some(trace) = &mut self.trace {
-            trace.add(&text);
-        }
-    }
-}
-
-/// Adds what the program calls the running thread, if it does. (`main` is what the library calls the first one.)
-fn add_name(text: &mut Text) {
-    let thread = std::thread::current();
-    let Some(name) = thread.name().filter(|name| *name != "main") else { return };
-    text.add(b"N ");
-    for byte in name.bytes().take(MOST_NAME) {
-        text.add(&[if byte.is_ascii_control() { b'?' } else { byte }]);
-    }
-    text.add(b"\n");
-}
-
-/// Adds a record in the form of the files.
-fn add_record(text: &mut Text, names: &super::names::Names, record: Record, is_wish: bool) {
-    let Some(place) = record.place else {
-        text.add(b"R ");
-        names.add_lock(text, record.code / MODE_COUNT);
-        return text.add(b"\n");
-    };
-    text.add(if is_wish { b"W " } else { b"A " });
-    names.add_lock(text, record.code / MODE_COUNT);
-    text.add(MODES[(record.code % MODE_COUNT) as usize]);
-    add_place(text, place);
-    text.add(b"\n");
 }

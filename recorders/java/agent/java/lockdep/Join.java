@@ -3,7 +3,7 @@ package java.lockdep;
 /**
  * A wait for the end of a thread. To who joins it, a thread is a lock that it has from its start to its end, and that
  * is taken and given back at once. What of this can matter is found out when the traces are made
- * (tool/lockdep/joins.py).
+ * (tool/lockdep/finish/joins.py).
  */
 final class Join {
     /** How long is waited before that is written, in milliseconds. */
@@ -32,8 +32,8 @@ final class Join {
         Join join = null;
         try {
             Known life = task.depth() > 0 || task.life != null ? Known.ofThread(thread) : null;
-            if (life != null) {
-                join = new Join(task, life, mannerOf(thread, isTimed), site);
+            if (life != null && life.joiner != task) {
+                join = new Join(task, life, isTimed ? Modes.Manner.WAITS_FOR_A_TIME : Modes.Manner.WAITS, site);
             }
         } catch (Throwable error) {
             task.abandon(error);
@@ -41,11 +41,6 @@ final class Join {
         }
         task.leave();
         return join;
-    }
-
-    private static Modes.Manner mannerOf(Thread thread, boolean isTimed) {
-        if (isTimed) return Modes.Manner.WAITS_FOR_A_TIME;
-        return thread.isAlive() ? Modes.Manner.WAITS : Modes.Manner.FINDS_ENDED;
     }
 
     /**
@@ -83,9 +78,25 @@ final class Join {
             if (join != null && join.manner == Modes.Manner.WAITS) join.breakOff();
             throw brokenOff;
         }
-        if (join == null) return;
-        if (!thread.isAlive()) join.pass();
-        else if (!isShort) join.waitLong(thread, isTimed ? milliseconds - PATIENCE : 0, nanoseconds);
+        if (join != null) {
+            if (!thread.isAlive()) join.pass();
+            else if (!isShort) join.waitLong(thread, isTimed ? milliseconds - PATIENCE : 0, nanoseconds);
+        }
+        if (!thread.isAlive()) noteJoined(thread);
+    }
+
+    /** The running thread has waited for the end of another one, and never waits for that one again. */
+    private static void noteJoined(Thread thread) {
+        Task task = Task.begin();
+        if (task == null) return;
+        try {
+            Known life = Known.ofThread(thread);
+            if (life != null) life.joiner = task;
+        } catch (Throwable error) {
+            task.abandon(error);
+            return;
+        }
+        task.leave();
     }
 
     /** An interrupt ended it before it was written. It would have waited for ever, so its order is written even so. */

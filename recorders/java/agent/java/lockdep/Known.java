@@ -41,6 +41,8 @@ final class Known extends WeakReference<Object> {
     private volatile Known[] givers = NO_GIVERS;
     /** Of a thread as a lock: its task, once it has one; whether somebody waits for its end; and whether the file says so. */
     volatile Task task;
+    /** Who has waited for its end last, and never waits for it again. */
+    volatile Task joiner;
     volatile boolean isWaitedFor;
     boolean isTold;
     /** For Provoke: the orders whose first lock it was, and its number in the file. */

@@ -1,6 +1,6 @@
 package java.lockdep;
 
-/** How a lock is taken: the last three bits of a code, as in what makes the traces (lockdep_record/finish.py). */
+/** How a lock is taken: the last three bits of a code, as recorders/log.md has them. */
 final class Modes {
     static final int WRITE = 0;
     static final int TRY_WRITE = 1;
@@ -10,18 +10,15 @@ final class Modes {
     /** By a wait that gives up at a time. */
     static final int TIMED_READ = 5;
     static final int TIMED_WRITE = 6;
-    /** Of a thread that had ended when it was joined. */
-    static final int ENDED = 7;
 
     /** In which manner a lock is taken, by a reader or a writer. */
-    enum Manner { WAITS, TRIES, WAITS_FOR_A_TIME, FINDS_ENDED }
+    enum Manner { WAITS, TRIES, WAITS_FOR_A_TIME }
 
     private Modes() {
     }
 
     static int of(boolean isReader, Manner manner) {
         if (manner == Manner.WAITS) return isReader ? READ : WRITE;
-        if (manner == Manner.FINDS_ENDED) return ENDED;
         if (manner == Manner.TRIES) return isReader ? TRY_READ : TRY_WRITE;
         return isReader ? TIMED_READ : TIMED_WRITE;
     }

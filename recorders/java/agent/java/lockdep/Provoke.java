@@ -120,10 +120,10 @@ public final class Provoke {
     }
 
     /** A thread has a task from here on. A virtual one isn't held back. */
-    static Stand begin(Task task) {
+    static Stand begin(String nameOfThread) {
         if (it == null) return null;
         boolean isVirtual = Thread.currentThread().getClass().getName().startsWith("java.lang.VirtualThread");
-        Stand stand = new Stand(isVirtual ? 0 : it.freePlace(), it.number(task.threadName()));
+        Stand stand = new Stand(isVirtual ? 0 : it.freePlace(), it.number(nameOfThread));
         if (stand.place != 0) it.all.add(stand);
         return stand;
     }

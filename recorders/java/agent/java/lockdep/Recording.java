@@ -145,7 +145,7 @@ public final class Recording {
     }
 
     @Apart
-    static void write(Task task) {
+    static void write(Trace task) {
         synchronized (it) {
             it.writeRecords(task);
         }
@@ -153,14 +153,14 @@ public final class Recording {
 
     /** Only this many of the records stay that the file has of a task. */
     @Apart
-    static void cut(Task task, int count) {
+    static void cut(Trace task, int count) {
         synchronized (it) {
             it.put("B " + task.number + " " + count + "\n");
         }
     }
 
     /** A task's record that the file has belongs to another lock. */
-    static void rename(Task task, int record, int code) {
+    static void rename(Trace task, int record, int code) {
         synchronized (it) {
             StringBuilder text = new StringBuilder();
             it.declare(code, text);
@@ -245,7 +245,7 @@ public final class Recording {
         }
     }
 
-    private void writeRecords(Task task) {
+    private void writeRecords(Trace task) {
         StringBuilder text = new StringBuilder();
         if (task.number == 0) {
             task.number = ++taskCount;
@@ -308,7 +308,7 @@ public final class Recording {
     }
 
     /** Adds a task's own counts to those of the process. */
-    private void count(Task task) {
+    private void count(Trace task) {
         counts[0] += task.operations;
         counts[1] += task.repeats;
         counts[2] += task.retriedTries;

@@ -62,11 +62,11 @@ public final class Supers {
 
     /** A stamped lock is about to be waited for. */
     public static void writes(StampedLock lock, int site) {
-        Wish.of(Part.of(lock, false), Modes.Manner.WAITS, site);
+        Pending.of(Part.of(lock, false), Modes.Manner.WAITS, site);
     }
 
     public static void reads(StampedLock lock, int site) {
-        Wish.of(Part.of(lock, true), Modes.Manner.WAITS, site);
+        Pending.of(Part.of(lock, true), Modes.Manner.WAITS, site);
     }
 
     /** That call has ended. */

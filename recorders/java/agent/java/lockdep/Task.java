@@ -1,34 +1,19 @@
 package java.lockdep;
 
 import java.lang.invoke.VarHandle;
-import java.lang.ref.WeakReference;
-import java.util.Arrays;
 import java.util.concurrent.TimeUnit;
 
 /**
- * A thread: what it holds, and its records that aren't in the file yet. Only the thread itself works on it, except at
- * the end, when the recording is over.
+ * A thread, and what it does with monitors and locks. Only the thread itself works on it, except at the end, when the
+ * recording is over.
  */
-final class Task {
-    static final int MOST_HELD = 48;
-    /** (There is a release for each held lock.) */
-    static final int MOST_EVENTS = 1000000 - 2 * MOST_HELD;
-
+final class Task extends Trace {
     private static final int MOST_RECENT = 15;
 
     private static final ThreadLocal<Task> here = new ThreadLocal<>();
 
-    final WeakReference<Thread> thread;
     final int hashOfThread = System.identityHashCode(Thread.currentThread());
     final long startOfThread = System.nanoTime();
-    /** Its number in the file, once it is there. */
-    int number;
-    long operations;
-    long repeats;
-    long retriedTries;
-    long beyondHeld;
-    long fullTraces;
-    long unseenReleases;
 
     /** Where the newest constructor that is told its place is called; 0 once it was asked. */
     int making;
@@ -38,38 +23,15 @@ final class Task {
     boolean isOver;
     /** While the task is being examined. */
     private boolean isBusy;
-    private Held[] held = new Held[4];
-    private int depth;
-    private Way way = new Way(Recording.common);
-    /** The records that aren't in the file yet, each a code and a place; how many; and how many are in it. */
-    int[] records = new int[16];
-    int size;
-    int base;
-    /** How many records there were when it last did something new. */
-    private int fresh;
-    /** What it waits for: the newest held lock. */
-    private Held wish;
     /** Of which lock, or part of one, that was wanted. */
-    private Known wishOf;
-    /** What its thread is to who joins it; null if it wasn't seen to start. */
-    final Known life;
-    /** What it stands at or waits for, for Provoke; null if threads aren't held back. */
-    final Stand stand;
-    /** What it took without a record; null if it never did that. */
-    private LeftOut leftOut;
-    private Known failed;
-    /** How much it has taken, and its calls of the program's own locks; null if it never made one. */
-    private long taken;
+    private Known pendingOf;
+    /** Its calls of the program's own locks; null if it never made one. */
     private Begun begun;
-    private volatile boolean hasDropped;
     /** Those that were looked up, by the last bits of their hashes. */
     private final Known[] recent = new Known[MOST_RECENT + 1];
 
     private Task() {
-        thread = new WeakReference<>(Thread.currentThread());
-        life = Known.ofThread(Thread.currentThread());
         if (life != null) life.task = this;
-        stand = Provoke.begin(this);
     }
 
     // ---- The running task.
@@ -107,12 +69,6 @@ final class Task {
         Recording.add(task);
         task.leave();
         return task;
-    }
-
-    /** What the thread is called, without characters that would end a line. */
-    String threadName() {
-        Thread of = thread.get();
-        return of == null ? "" : Source.onOneLine(of.getName());
     }
 
     @Within
@@ -263,8 +219,8 @@ final class Task {
         }
         Held entry = push(lock.target, null, Modes.of(lock.isReader, manner), site);
         if (entry == null) return null;
-        wish = entry;
-        wishOf = lock;
+        pending = entry;
+        pendingOf = lock;
         if (isNew()) Recording.write(this);
         return entry;
     }
@@ -282,11 +238,11 @@ final class Task {
             takeAgain(lock);
             return;
         }
-        if (wish != wanted) { // one of the program's own calls came in between
+        if (pending != wanted) { // one of the program's own calls came in between
             took(lock, manner, site);
             return;
         }
-        wish = null;
+        pending = null;
         operations++;
         if (!way.isTaken) see();
         if (!lock.target.isReentrant) lock.target.addHolder(this);
@@ -295,7 +251,7 @@ final class Task {
     /** A lock was taken by a call that waits without a limit; it is what was wanted, unless other calls came in between. */
     @Within
     void got(Object object, int site) {
-        if (wish != null && wishOf.get() == object) grant(wishOf, wish, Modes.Manner.WAITS, site);
+        if (pending != null && pendingOf.get() == object) grant(pendingOf, pending, Modes.Manner.WAITS, site);
         else gotAfterOthers(lock(object), site);
     }
 
@@ -333,29 +289,13 @@ final class Task {
 
     /** What was wanted wasn't taken. */
     void withdraw(Held wanted) {
-        if (wanted != null && wanted == wish) withdraw();
-    }
-
-    @Apart
-    private void withdraw() {
-        Held entry = wish;
-        wish = null;
-        depth--;
-        way = entry.before;
-        if (entry.record < base) {
-            Recording.cut(this, entry.record);
-            base = entry.record;
-            size = 0;
-        } else {
-            size = entry.record - base;
-        }
-        entry.clear();
+        if (wanted != null && wanted == pending) withdraw();
     }
 
     /** What was wanted won't be waited for any longer, but would have been for ever: it is written as taken and given back. */
     void breakOff(Held wanted) {
-        if (wanted == null || wanted != wish) return;
-        wish = null;
+        if (wanted == null || wanted != pending) return;
+        pending = null;
         operations++;
         if (!way.isTaken) see();
         giveBack(wanted);
@@ -481,193 +421,7 @@ final class Task {
         for (int level = 1; entry == null && level < released.levels; level++) leftOut.add(released.lock);
     }
 
-    // ---- Acquisitions and releases of either kind.
-
-    /**
-     * Handles what happened since the last operation: an error may have ended a wait, or others may have released what
-     * this task held.
-     */
-    @Within
-    private void settle() {
-        if (wish != null) withdraw();
-        if (hasDropped) giveDropped();
-    }
-
-    @Apart
-    private void giveDropped() {
-        hasDropped = false;
-        for (int at = depth - 1; at >= 0; at--) {
-            if (held[at].isDropped) giveBack(held[at]);
-        }
-    }
-
-    @Within
-    private Held take(Known lock, Object object, int mode, int site) {
-        settle();
-        operations++;
-        Held entry = push(lock, object, mode, site);
-        if (entry == null) leaveOut(object == null ? lock : object);
-        else if (!way.isTaken) see();
-        return entry;
-    }
-
-    /** Adds to what is held, and to the records. Null if there is no room for it. */
-    @Apart
-    private Held push(Known lock, Object object, int mode, int site) {
-        failed = null;
-        if (depth > 0) tellAllApart(lock);
-        else if (life != null) lock.tellApartEarly();
-        if (depth == MOST_HELD || base + size >= MOST_EVENTS) return null;
-        Held entry = depth < held.length ? held[depth] : null;
-        if (entry == null) entry = addHeld();
-        entry.lock = lock;
-        entry.object = object;
-        entry.code = lock.key << 3 | mode;
-        entry.record = entry.start = base + size;
-        entry.before = way;
-        entry.levels = 1;
-        entry.number = entry.callBegan = ++taken;
-        way = way.to(entry.code);
-        append(entry.code, way.isTaken || site == 0 ? site : placeOf(site));
-        if (stand != null && site != 0) Provoke.took(entry, site);
-        depth++;
-        return entry;
-    }
-
-    @Apart
-    private Held addHeld() {
-        if (depth == held.length) held = Arrays.copyOf(held, 2 * depth);
-        return held[depth] = new Held();
-    }
-
-    @Apart
-    private int placeOf(int site) {
-        return Site.of(site).isOfJdk() ? Site.withCaller(site) : site;
-    }
-
-    @Apart
-    private void growRecords() {
-        records = Arrays.copyOf(records, 2 * records.length);
-    }
-
-    @Within
-    private void append(int code, int site) {
-        if (2 * size == records.length) growRecords();
-        records[2 * size] = code;
-        records[2 * size + 1] = site;
-        size++;
-    }
-
-    @Apart
-    private void leaveOut(Object what) {
-        if (leftOut == null) leftOut = new LeftOut();
-        leftOut.add(what);
-        if (depth == MOST_HELD) beyondHeld++;
-        else fullTraces++;
-    }
-
-    /** A way is new to the task. If it is also new to the process, it is written. */
-    @Apart
-    private void see() {
-        way.isTaken = true;
-        fresh = base + size;
-        if (way.common.isTaken) return;
-        way.common.isTaken = true;
-        Recording.write(this);
-    }
-
-    /** The task no longer holds a lock. What it did since it took the lock is dropped, if nothing of it was new. */
-    @Apart
-    private void giveBack(Held entry) {
-        operations++;
-        if (held[depth - 1] != entry) {
-            giveBackEarly(entry);
-            return;
-        }
-        depth--;
-        way = entry.before;
-        if (entry.start < fresh) {
-            append(entry.code & ~7 | Modes.RELEASE, 0);
-        } else {
-            takeBack(entry.start);
-        }
-        entry.clear();
-    }
-
-    /** Only this many records stay. */
-    private void takeBack(int count) {
-        repeats += base + size - count + 1;
-        if (count < base) {
-            Recording.cut(this, count);
-            base = count;
-        }
-        size = count - base;
-    }
-
-    /**
-     * A lock is released before others that were taken later: these move up to its place. What is dropped begins where
-     * just those before it are held: that is where the one before it began, if that is a lock with the same code, or
-     * nowhere.
-     */
-    @Apart
-    private void giveBackEarly(Held entry) {
-        int at = depth - 1;
-        while (held[at] != entry) at--;
-        int start = entry.start;
-        for (int later = at + 1; later < depth; later++) {
-            int own = held[later].start;
-            held[later].start = start;
-            start = held[later].code == entry.code && start >= 0 ? own : -1;
-        }
-        Way next = entry.before;
-        for (int later = at; later < depth - 1; later++) {
-            held[later] = held[later + 1];
-            held[later].before = next;
-            next = next.to(held[later].code);
-        }
-        way = next;
-        depth--;
-        held[depth] = entry;
-        append(entry.code & ~7 | Modes.RELEASE, 0);
-        entry.clear();
-    }
-
-    // ---- Single locks.
-
-    /** A lock is taken with others held. All but the first of these were told apart when they were taken. */
-    @Apart
-    private void tellAllApart(Known lock) {
-        Held first = held[0];
-        if (depth == 1 && (!first.lock.isApart || first.code >>> 3 != first.lock.key)) tellHeldApart(first);
-        if (!lock.isApart) lock.tellApart();
-    }
-
-    /** The lock that is held alone gets another one under it: it becomes a single lock, and so does its record. */
-    @Apart
-    private void tellHeldApart(Held entry) {
-        if (!entry.lock.isApart) entry.lock.tellApart();
-        int code = entry.lock.key << 3 | entry.code & 7;
-        if (code == entry.code) return;
-        entry.code = code;
-        if (entry.record >= base) records[2 * (entry.record - base)] = code;
-        else Recording.rename(this, entry.record, code);
-        way = entry.before.to(code);
-        if (!way.isTaken) see();
-    }
-
     // ---- The end.
-
-    int depth() {
-        return depth;
-    }
-
-    Held top() {
-        return depth == 0 ? null : held[depth - 1];
-    }
-
-    boolean waits() {
-        return wish != null;
-    }
 
     /** The thread has ended: what it waited for wasn't taken. */
     void end() {

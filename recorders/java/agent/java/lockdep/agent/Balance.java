@@ -2,8 +2,6 @@ package java.lockdep.agent;
 
 import java.util.Arrays;
 
-import org.objectweb.asm.Opcodes;
-
 /**
  * Whether a method may return, or throw something, with a monitor held that it has entered by an instruction. No compiler makes
  * that: the virtual machine exits the monitor then and throws an error, and no instruction says so.

@@ -7,8 +7,6 @@ import java.util.List;
 import java.util.Map;
 import java.util.Set;
 
-import org.objectweb.asm.Opcodes;
-
 /** The calls that are replaced by those of Hooks, which also get the object and the place of the call. */
 final class Calls {
     static final String HOOKS = "java/lockdep/Hooks";

@@ -6,14 +6,13 @@ import java.io.IOException;
 import java.nio.charset.StandardCharsets;
 import java.util.Arrays;
 
-import org.objectweb.asm.Opcodes;
-
 /**
  * A class file, of which no more is read than what says whether anything in it is to be rewritten. (Few methods are,
  * and to take all of them apart costs more than the program's own start.)
  */
 final class ClassFile {
     /** Kinds of constants. */
+    static final int TEXT = 1;
     static final int INTEGER = 3;
     static final int CLASS = 7;
     static final int FIELD = 9;
@@ -23,16 +22,12 @@ final class ClassFile {
     static final int DYNAMIC_CALL = 18;
     static final String LINES = "LineNumberTable";
     private static final String CONSTRUCTOR = "<init>";
-    private static final int TEXT = 1;
     private static final int LONG = 5;
     private static final int DOUBLE = 6;
     /** How long the constants of each kind are; 0 if there are none of a kind. */
     private static final int[] LENGTHS_OF_CONSTANTS = {0, 3, 0, 5, 5, 9, 9, 3, 3, 5, 5, 5, 5, 0, 0, 4, 3, 5, 5, 3, 3};
     /** How long the instructions of each kind are; 0 if they aren't equally long. */
     private static final byte[] LENGTHS = new byte[256];
-    static final int WIDE = 196;
-    static final int GOTO_W = 200;
-    static final int JSR_W = 201;
     private static final int FIRST_CONSTANT = 10;
 
     static {
@@ -43,7 +38,7 @@ final class ClassFile {
         for (int kind : new int[] {17, 19, 20, 132, 187, 189, 192, 193, 198, 199}) LENGTHS[kind] = 3;
         for (int kind : new int[] {185, 186, 200, 201}) LENGTHS[kind] = 5;
         LENGTHS[197] = 4;
-        for (int kind : new int[] {Opcodes.TABLESWITCH, Opcodes.LOOKUPSWITCH, WIDE}) LENGTHS[kind] = 0;
+        for (int kind : new int[] {Opcodes.TABLESWITCH, Opcodes.LOOKUPSWITCH, Opcodes.WIDE}) LENGTHS[kind] = 0;
     }
 
     /**
@@ -227,7 +222,7 @@ final class ClassFile {
 
     private int afterLong(int at, Method method) {
         int opcode = opcode(at);
-        if (opcode == WIDE) return at + (opcode(at + 1) == Opcodes.IINC ? 6 : 4);
+        if (opcode == Opcodes.WIDE) return at + (opcode(at + 1) == Opcodes.IINC ? 6 : 4);
         int words = at + 4 - (at - method.start & 3);
         int after = opcode == Opcodes.LOOKUPSWITCH ? words + 8 + 8 * longNumber(words + 4)
                 : words + 16 + 4 * (longNumber(words + 8) - longNumber(words + 4));
@@ -259,6 +254,11 @@ final class ClassFile {
     /** The kind of a constant; 0 for the second half of another one. */
     int kind(int constant) {
         return constants[constant] == 0 ? 0 : bytes[constants[constant]];
+    }
+
+    /** Where a constant begins. */
+    int place(int constant) {
+        return constants[constant];
     }
 
     /** One of a constant's own numbers, which begins behind so many bytes. */

@@ -2,8 +2,6 @@ package java.lockdep.agent;
 
 import java.util.Arrays;
 
-import org.objectweb.asm.Opcodes;
-
 /**
  * The code of a method with instructions added. All that says where something is in the code is written anew: jumps,
  * handlers, lines, variables, and the frames by which the virtual machine verifies it. Annotations of types within the
@@ -25,7 +23,7 @@ final class Code {
     static {
         Arrays.fill(KINDS, Opcodes.IFEQ, Opcodes.RET, (byte) JUMP);
         KINDS[Opcodes.IFNULL] = KINDS[Opcodes.IFNONNULL] = JUMP;
-        KINDS[ClassFile.GOTO_W] = KINDS[ClassFile.JSR_W] = FAR_JUMP;
+        KINDS[Opcodes.GOTO_W] = KINDS[Opcodes.JSR_W] = FAR_JUMP;
         KINDS[Opcodes.TABLESWITCH] = KINDS[Opcodes.LOOKUPSWITCH] = SWITCH;
     }
 

@@ -8,14 +8,11 @@ import java.util.Arrays;
 import java.util.HashMap;
 import java.util.Map;
 
-import org.objectweb.asm.Opcodes;
-
 /** What a rewritten class has behind its own constants and its own bootstrap methods. */
 final class Constants {
     /** Where a class's own constants are. */
     private static final int FIRST = 10;
     private static final int MOST = 65535;
-    private static final int TEXT = 1;
     private static final int STRING = 8;
     private static final int NAME_AND_TYPE = 12;
 
@@ -65,7 +62,7 @@ final class Constants {
         if (known != null) return known;
         byte[] bytes = text.getBytes(StandardCharsets.UTF_8);
         if (bytes.length != text.length() || text.indexOf(0) >= 0) bytes = ofOtherText(text);
-        next().put(TEXT).putShort(bytes.length).put(bytes, 0, bytes.length);
+        next().put(ClassFile.TEXT).putShort(bytes.length).put(bytes, 0, bytes.length);
         texts.put(text, count);
         return add(0);
     }

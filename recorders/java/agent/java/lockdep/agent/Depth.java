@@ -3,8 +3,6 @@ package java.lockdep.agent;
 import java.util.HashMap;
 import java.util.Map;
 
-import org.objectweb.asm.Opcodes;
-
 /**
  * How deep the stack is on the way from one instruction to the call of a constructor behind it. Compilers leave an object
  * there until its constructor is called; a class that is made by hand, or by a tool that shrinks programs, may not.
@@ -58,7 +56,7 @@ final class Depth {
     }
 
     private boolean isReturnOfSubroutine(int at) {
-        return type.opcode(type.opcode(at) == ClassFile.WIDE ? at + 1 : at) == Opcodes.RET;
+        return type.opcode(type.opcode(at) == Opcodes.WIDE ? at + 1 : at) == Opcodes.RET;
     }
 
     /** Notes how deep the stack is where an instruction jumps to. Returns whether all of that is on the way. */
@@ -75,7 +73,7 @@ final class Depth {
 
     private int taken(int at) {
         int opcode = type.opcode(at);
-        if (opcode == ClassFile.WIDE) return TAKEN.charAt(type.opcode(at + 1)) - '0';
+        if (opcode == Opcodes.WIDE) return TAKEN.charAt(type.opcode(at + 1)) - '0';
         if (opcode == Opcodes.MULTIANEWARRAY) return type.opcode(at + 3);
         if (opcode >= Opcodes.GETSTATIC && opcode <= Opcodes.PUTFIELD) return takenByField(opcode, at);
         if (opcode < Opcodes.INVOKEVIRTUAL || opcode > Opcodes.INVOKEDYNAMIC) return TAKEN.charAt(opcode) - '0';
@@ -91,7 +89,7 @@ final class Depth {
 
     private int put(int at) {
         int opcode = type.opcode(at);
-        if (opcode == ClassFile.WIDE) return PUT.charAt(type.opcode(at + 1)) - '0';
+        if (opcode == Opcodes.WIDE) return PUT.charAt(type.opcode(at + 1)) - '0';
         if (opcode == Opcodes.MULTIANEWARRAY) return 1;
         if (opcode < Opcodes.GETSTATIC || opcode > Opcodes.INVOKEDYNAMIC) return PUT.charAt(opcode) - '0';
         if (opcode == Opcodes.PUTSTATIC || opcode == Opcodes.PUTFIELD) return 0;

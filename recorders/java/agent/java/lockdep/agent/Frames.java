@@ -1,12 +1,7 @@
 package java.lockdep.agent;
 
-import org.objectweb.asm.Opcodes;
-
 /** Whether the object of a method is in its place throughout. (Compilers leave it there; tools that shrink programs may not.) */
 final class Frames {
-    /** Short forms of instructions, of which each kind has four. */
-    private static final int ISTORE_0 = 59;
-    private static final int ASTORE_3 = 78;
     /** Frames that drop variables, add some, or name all. */
     private static final int CHOP = 248;
     private static final int SAME = 251;
@@ -33,9 +28,9 @@ final class Frames {
     boolean isStoredOver() {
         for (int at = method.start; at < method.end; at = type.after(at, method)) {
             int opcode = type.opcode(at);
-            boolean isWide = opcode == ClassFile.WIDE;
+            boolean isWide = opcode == Opcodes.WIDE;
             int plain = isWide ? type.opcode(at + 1) : opcode;
-            boolean isFirst = opcode >= ISTORE_0 && opcode <= ASTORE_3 && (opcode - ISTORE_0 & 3) == 0;
+            boolean isFirst = opcode >= Opcodes.ISTORE_0 && opcode <= Opcodes.ASTORE_3 && (opcode - Opcodes.ISTORE_0 & 3) == 0;
             boolean isStore = plain >= Opcodes.ISTORE && plain <= Opcodes.ASTORE;
             if (isFirst || isStore && (isWide ? type.number(at + 2) : type.opcode(at + 1)) == 0) return true;
         }

@@ -1,7 +1,5 @@
 package java.lockdep.agent;
 
-import org.objectweb.asm.Opcodes;
-
 /** Where instructions lead to besides the next one. */
 final class Jumps {
     private static final int[] NONE = {};
@@ -11,8 +9,8 @@ final class Jumps {
 
     /** Whether the next instruction isn't reached from one. */
     static boolean isEnd(int opcode) {
-        return opcode >= Opcodes.GOTO && opcode <= Opcodes.RETURN || opcode == Opcodes.ATHROW || opcode == ClassFile.GOTO_W
-                || opcode == ClassFile.JSR_W;
+        return opcode >= Opcodes.GOTO && opcode <= Opcodes.RETURN || opcode == Opcodes.ATHROW || opcode == Opcodes.GOTO_W
+                || opcode == Opcodes.JSR_W;
     }
 
     /** Where an instruction jumps to. */
@@ -20,7 +18,7 @@ final class Jumps {
         int opcode = type.opcode(at);
         if (!Code.isJump(opcode)) return NONE;
         if (opcode == Opcodes.TABLESWITCH || opcode == Opcodes.LOOKUPSWITCH) return targetsOfSwitch(type, method, at);
-        boolean isFar = opcode == ClassFile.GOTO_W || opcode == ClassFile.JSR_W;
+        boolean isFar = opcode == Opcodes.GOTO_W || opcode == Opcodes.JSR_W;
         return new int[] {at + (isFar ? type.longNumber(at + 1) : (short) type.number(at + 1))};
     }
 

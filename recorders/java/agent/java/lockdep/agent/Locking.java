@@ -4,8 +4,6 @@ import java.util.Arrays;
 import java.util.HashSet;
 import java.util.Set;
 
-import org.objectweb.asm.Opcodes;
-
 /** What a class does with monitors, which says where objects that are used as locks are made. */
 final class Locking {
     static final String BUFFER = "java/lang/StringBuffer";
@@ -13,9 +11,6 @@ final class Locking {
             "java/util/Hashtable", "java/util/Properties",
             Hierarchy.LOCKS + "ReentrantLock", Hierarchy.LOCKS + "ReentrantReadWriteLock",
                     Hierarchy.LOCKS + "StampedLock");
-    /** Short forms of instructions, of which each has four. */
-    private static final int ALOAD_0 = 42;
-    private static final int ASTORE_0 = 75;
 
     private final ClassFile type;
     private boolean locksThis;
@@ -65,8 +60,8 @@ final class Locking {
     }
 
     private boolean isStore(int at) {
-        int opcode = type.opcode(at) == ClassFile.WIDE ? type.opcode(at + 1) : type.opcode(at);
-        return opcode == Opcodes.ASTORE || opcode >= ASTORE_0 && opcode < ASTORE_0 + 4;
+        int opcode = type.opcode(at) == Opcodes.WIDE ? type.opcode(at + 1) : type.opcode(at);
+        return opcode == Opcodes.ASTORE || opcode >= Opcodes.ASTORE_0 && opcode < Opcodes.ASTORE_0 + 4;
     }
 
     /** A monitor is that of the object itself, or that of a field, which is noted, or another one. */
@@ -76,7 +71,7 @@ final class Locking {
             int field = type.number(operand + 1);
             fields.add(type.owner(field) + "." + type.nameOfMember(field));
         }
-        boolean isFirst = opcode == ALOAD_0 || opcode == Opcodes.ALOAD && type.bytes[operand + 1] == 0;
+        boolean isFirst = opcode == Opcodes.ALOAD_0 || opcode == Opcodes.ALOAD && type.bytes[operand + 1] == 0;
         locksThis |= isFirst && !method.isStatic();
     }
 }

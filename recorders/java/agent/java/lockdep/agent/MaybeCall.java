@@ -3,8 +3,6 @@ package java.lockdep.agent;
 import java.util.Map;
 import java.util.Set;
 
-import org.objectweb.asm.Opcodes;
-
 /**
  * A call whose object may be a lock or a thread, which is known only when it is made: what of Maybe is called before it,
  * and after it.

@@ -10,16 +10,11 @@ import java.util.HashMap;
 import java.util.List;
 import java.util.Map;
 
-import org.objectweb.asm.Opcodes;
-
 /**
  * Rewrites a method. The added code has no branches, so the frames of the method stay right; only the handler of a
  * synchronized method gets its own frame.
  */
 final class MethodRewriter {
-    private static final int LDC_W = 19;
-    private static final int ALOAD_0 = 42;
-
     private final ClassFile type;
     private final ClassFile.Method method;
     private final Source source;
@@ -189,7 +184,7 @@ final class MethodRewriter {
     }
 
     private static Bytes load(Bytes to, int constant) {
-        return constant < 256 ? to.put(Opcodes.LDC).put(constant) : to.put(LDC_W).putShort(constant);
+        return constant < 256 ? to.put(Opcodes.LDC).put(constant) : to.put(Opcodes.LDC_W).putShort(constant);
     }
 
     // ---- Calls.
@@ -334,7 +329,7 @@ final class MethodRewriter {
         if (!hasObject || new Frames(type, method, descriptor).isStoredOver())
                 throw new IllegalStateException("its method " + name + " changes `this`");
         if (call.after == null) {
-            supers(site(before(at).put(ALOAD_0)), call.before, "(J" + receiver + "I)J");
+            supers(site(before(at).put(Opcodes.ALOAD_0)), call.before, "(J" + receiver + "I)J");
             return;
         }
         boolean hasUnit = !called.descriptor.startsWith("(J)");
@@ -343,7 +338,7 @@ final class MethodRewriter {
         supers(first.put(Opcodes.DUP2), call.before, "(J)V");
         if (hasUnit) first.put(Opcodes.DUP2_X1).put(Opcodes.POP2);
         String result = called.descriptor.substring(called.descriptor.indexOf(')') + 1);
-        supers(site(behind(next).put(ALOAD_0)), call.after, "(" + result + receiver + "I)" + result);
+        supers(site(behind(next).put(Opcodes.ALOAD_0)), call.after, "(" + result + receiver + "I)" + result);
     }
 
     /** A call stays whose object may be a lock or a thread, which is asked when it is made. */
@@ -457,7 +452,7 @@ final class MethodRewriter {
             if (isNoted && isOnStack(made, at)) noteMade(at, next, at);
         } else if (method.isConstructor && news.isEmpty() && wanted.locking.isOfItself()
                 && !type.owner(called).equals(type.name) && isOfThis(at)) {
-            call(behind(next).put(ALOAD_0), Hook.BORN);
+            call(behind(next).put(Opcodes.ALOAD_0), Hook.BORN);
         }
     }
 
@@ -472,7 +467,7 @@ final class MethodRewriter {
         Depth depth = new Depth(type, method);
         boolean isFound = false;
         for (int at = method.start; at < call && !isFound; at = type.after(at, method)) {
-            isFound = type.opcode(at) == ALOAD_0 && depth.stays(1, at + 1, call);
+            isFound = type.opcode(at) == Opcodes.ALOAD_0 && depth.stays(1, at + 1, call);
         }
         return isFound;
     }
@@ -555,7 +550,7 @@ final class MethodRewriter {
 
     /** The object whose monitor the method takes. */
     private Bytes owner(Bytes to) {
-        if (!method.isStatic()) return to.put(ALOAD_0);
+        if (!method.isStatic()) return to.put(Opcodes.ALOAD_0);
         if (!isLockedByName()) return load(to, type.self);
         return load(to, constants.string(type.name.replace('/', '.'))).put(Opcodes.INVOKESTATIC).putShort(
                 constants.method("java/lang/Class", "forName", "(Ljava/lang/String;)Ljava/lang/Class;"));

@@ -4,16 +4,11 @@ import java.util.ArrayDeque;
 import java.util.HashSet;
 import java.util.Set;
 
-import org.objectweb.asm.Opcodes;
-
 /**
  * Whether a method may enter the monitor of an object whose constructor wasn't called yet. No compiler makes that, and from
  * version 50 on the virtual machine allows it, but not that such an object is handed to a call, as the recorder's.
  */
 final class Unmade {
-    /** Short forms of instructions, of which each has four. */
-    private static final int ALOAD_0 = 42;
-    private static final int ASTORE_0 = 75;
     /** Kinds of frames, and what they say of an object whose constructor wasn't called. */
     private static final int SAME = 63;
     private static final int ONE_ON_STACK = 127;
@@ -106,11 +101,11 @@ final class Unmade {
     }
 
     private int loadedBy(int at) {
-        return variableOf(at, Opcodes.ALOAD, ALOAD_0);
+        return variableOf(at, Opcodes.ALOAD, Opcodes.ALOAD_0);
     }
 
     private int storedBy(int at) {
-        return variableOf(at, Opcodes.ASTORE, ASTORE_0);
+        return variableOf(at, Opcodes.ASTORE, Opcodes.ASTORE_0);
     }
 
     /** The variable of an instruction of a kind; -1 if it is none. */
@@ -118,7 +113,7 @@ final class Unmade {
         int opcode = type.opcode(at);
         if (opcode >= shortKind && opcode < shortKind + 4) return opcode - shortKind;
         if (opcode == kind) return type.opcode(at + 1);
-        return opcode == ClassFile.WIDE && type.opcode(at + 1) == kind ? type.number(at + 2) : -1;
+        return opcode == Opcodes.WIDE && type.opcode(at + 1) == kind ? type.number(at + 2) : -1;
     }
 
     /** Adds the variables that get a value that may be such an object. Returns whether there are more than before. */

@@ -2,8 +2,6 @@ package java.lockdep.agent;
 
 import java.util.Set;
 
-import org.objectweb.asm.Opcodes;
-
 /** Which methods of a class may have something to rewrite, and what else rewriting them has to know. */
 final class Wanted {
     /** Classes of the JDK whose objects are locks, or are often used as such: where they are made is always noted. */

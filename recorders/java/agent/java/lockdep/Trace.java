@@ -1,0 +1,249 @@
+package java.lockdep;
+
+import java.lang.ref.WeakReference;
+import java.util.Arrays;
+
+/** The trace of a thread: what it holds, and its records that aren't in the file yet. */
+abstract class Trace {
+    static final int MOST_HELD = 48;
+    /** (There is a release for each held lock.) */
+    static final int MOST_EVENTS = 1000000 - 2 * MOST_HELD;
+
+    final WeakReference<Thread> thread = new WeakReference<>(Thread.currentThread());
+    /** Its number in the file, once it is there. */
+    int number;
+    long operations;
+    long repeats;
+    long retriedTries;
+    long beyondHeld;
+    long fullTraces;
+    long unseenReleases;
+
+    Held[] held = new Held[4];
+    int depth;
+    Way way = new Way(Recording.common);
+    /** The records that aren't in the file yet, each a code and a place; how many; and how many are in it. */
+    int[] records = new int[16];
+    int size;
+    int base;
+    /** How many records there were when it last did something new. */
+    private int fresh;
+    /** What it waits for: the newest held lock. */
+    Held pending;
+    /** What its thread is to who joins it; null if it wasn't seen to start. */
+    final Known life = Known.ofThread(Thread.currentThread());
+    /** What it stands at or waits for, for Provoke; null if threads aren't held back. */
+    final Stand stand = Provoke.begin(threadName());
+    /** What it took without a record; null if it never did that. */
+    LeftOut leftOut;
+    Known failed;
+    /** How much it has taken. */
+    long taken;
+    volatile boolean hasDropped;
+
+    /** What the thread is called, without characters that would end a line. */
+    final String threadName() {
+        Thread of = thread.get();
+        return of == null ? "" : Source.onOneLine(of.getName());
+    }
+
+    final int depth() {
+        return depth;
+    }
+
+    final Held top() {
+        return depth == 0 ? null : held[depth - 1];
+    }
+
+    final boolean waits() {
+        return pending != null;
+    }
+
+    @Apart
+    final void withdraw() {
+        Held entry = pending;
+        pending = null;
+        depth--;
+        way = entry.before;
+        if (entry.record < base) {
+            Recording.cut(this, entry.record);
+            base = entry.record;
+            size = 0;
+        } else {
+            size = entry.record - base;
+        }
+        entry.clear();
+    }
+
+    /**
+     * Handles what happened since the last operation: an error may have ended a wait, or others may have released what
+     * this task held.
+     */
+    @Within
+    final void settle() {
+        if (pending != null) withdraw();
+        if (hasDropped) giveDropped();
+    }
+
+    @Apart
+    private void giveDropped() {
+        hasDropped = false;
+        for (int at = depth - 1; at >= 0; at--) {
+            if (held[at].isDropped) giveBack(held[at]);
+        }
+    }
+
+    @Within
+    final Held take(Known lock, Object object, int mode, int site) {
+        settle();
+        operations++;
+        Held entry = push(lock, object, mode, site);
+        if (entry == null) leaveOut(object == null ? lock : object);
+        else if (!way.isTaken) see();
+        return entry;
+    }
+
+    /** Adds to what is held, and to the records. Null if there is no room for it. */
+    @Apart
+    final Held push(Known lock, Object object, int mode, int site) {
+        failed = null;
+        if (depth > 0) tellAllApart(lock);
+        else if (life != null) lock.tellApartEarly();
+        if (depth == MOST_HELD || base + size >= MOST_EVENTS) return null;
+        Held entry = depth < held.length ? held[depth] : null;
+        if (entry == null) entry = addHeld();
+        entry.lock = lock;
+        entry.object = object;
+        entry.code = lock.key << 3 | mode;
+        entry.record = entry.start = base + size;
+        entry.before = way;
+        entry.levels = 1;
+        entry.number = entry.callBegan = ++taken;
+        way = way.to(entry.code);
+        append(entry.code, way.isTaken || site == 0 ? site : placeOf(site));
+        if (stand != null && site != 0) Provoke.took(entry, site);
+        depth++;
+        return entry;
+    }
+
+    @Apart
+    private Held addHeld() {
+        if (depth == held.length) held = Arrays.copyOf(held, 2 * depth);
+        return held[depth] = new Held();
+    }
+
+    @Apart
+    private int placeOf(int site) {
+        return Site.of(site).isOfJdk() ? Site.withCaller(site) : site;
+    }
+
+    @Apart
+    private void growRecords() {
+        records = Arrays.copyOf(records, 2 * records.length);
+    }
+
+    @Within
+    private void append(int code, int site) {
+        if (2 * size == records.length) growRecords();
+        records[2 * size] = code;
+        records[2 * size + 1] = site;
+        size++;
+    }
+
+    @Apart
+    final void leaveOut(Object what) {
+        if (leftOut == null) leftOut = new LeftOut();
+        leftOut.add(what);
+        if (depth == MOST_HELD) beyondHeld++;
+        else fullTraces++;
+    }
+
+    /** A way is new to the task. If it is also new to the process, it is written. */
+    @Apart
+    final void see() {
+        way.isTaken = true;
+        fresh = base + size;
+        if (way.common.isTaken) return;
+        way.common.isTaken = true;
+        Recording.write(this);
+    }
+
+    /** The task no longer holds a lock. What it did since it took the lock is dropped, if nothing of it was new. */
+    @Apart
+    final void giveBack(Held entry) {
+        operations++;
+        if (held[depth - 1] != entry) {
+            giveBackEarly(entry);
+            return;
+        }
+        depth--;
+        way = entry.before;
+        if (entry.start < fresh) {
+            append(entry.code & ~7 | Modes.RELEASE, 0);
+        } else {
+            takeBack(entry.start);
+        }
+        entry.clear();
+    }
+
+    /** Only this many records stay. */
+    private void takeBack(int count) {
+        repeats += base + size - count + 1;
+        if (count < base) {
+            Recording.cut(this, count);
+            base = count;
+        }
+        size = count - base;
+    }
+
+    /**
+     * A lock is released before others that were taken later: these move up to its place. What is dropped begins where
+     * just those before it are held: that is where the one before it began, if that is a lock with the same code, or
+     * nowhere.
+     */
+    @Apart
+    private void giveBackEarly(Held entry) {
+        int at = depth - 1;
+        while (held[at] != entry) at--;
+        int start = entry.start;
+        for (int later = at + 1; later < depth; later++) {
+            int own = held[later].start;
+            held[later].start = start;
+            start = held[later].code == entry.code && start >= 0 ? own : -1;
+        }
+        Way next = entry.before;
+        for (int later = at; later < depth - 1; later++) {
+            held[later] = held[later + 1];
+            held[later].before = next;
+            next = next.to(held[later].code);
+        }
+        way = next;
+        depth--;
+        held[depth] = entry;
+        append(entry.code & ~7 | Modes.RELEASE, 0);
+        entry.clear();
+    }
+
+    // ---- Single locks.
+
+    /** A lock is taken with others held. All but the first of these were told apart when they were taken. */
+    @Apart
+    private void tellAllApart(Known lock) {
+        Held first = held[0];
+        if (depth == 1 && (!first.lock.isApart || first.code >>> 3 != first.lock.key)) tellHeldApart(first);
+        if (!lock.isApart) lock.tellApart();
+    }
+
+    /** The lock that is held alone gets another one under it: it becomes a single lock, and so does its record. */
+    @Apart
+    private void tellHeldApart(Held entry) {
+        if (!entry.lock.isApart) entry.lock.tellApart();
+        int code = entry.lock.key << 3 | entry.code & 7;
+        if (code == entry.code) return;
+        entry.code = code;
+        if (entry.record >= base) records[2 * (entry.record - base)] = code;
+        else Recording.rename(this, entry.record, code);
+        way = entry.before.to(code);
+        if (!way.isTaken) see();
+    }
+}
