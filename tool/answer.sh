@@ -43,6 +43,9 @@ answer() {
         check | explain | graph | condense | chains)
             if is_typed "$@"; then say "no file is named, so one trace is read from standard input; Ctrl-D ends it"; fi
             ;;
+        schedule)
+            if is_typed "$@"; then say "no file is named, so one history is read from standard input; Ctrl-D ends it"; fi
+            ;;
     esac
     tied=
     if command -v setpriv >/dev/null; then tied='setpriv --pdeathsig TERM --'; fi

@@ -2,14 +2,15 @@
 
 _lockdep_options() {
     case $1 in
-        run) echo -o --recorder --frames --signals --known --no-library-list --write-known --strict-known --html --sarif --junit --json --accept-left-out --quiet --error-exitcode --confirmed-only --help ;;
+        run) echo -o --recorder --frames --signals --history --known --no-library-list --write-known --strict-known --html --sarif --junit --json --accept-left-out --quiet --error-exitcode --confirmed-only --help ;;
         provoke) echo -o --from --recorder --runs --pause --finding --keep --core --while --stdin --help ;;
         check) echo --workers --many --help ;;
         explain) echo --workers --many --json --locks --confirmed-only --help ;;
         graph) echo --workers --many --findings --help ;;
         condense) echo --workers --many --help ;;
+        schedule) echo --json --help ;;
         chains) echo --help ;;
-        record) echo -o --recorder --frames --signals --no-wait --version-1 --finish --summary --accept-left-out --help ;;
+        record) echo -o --recorder --frames --signals --history --no-wait --version-1 --finish --histories --summary --accept-left-out --help ;;
         confirm) echo --strict --html --sarif --junit --json --help ;;
         gather) echo -o --list --processes --scheduler --group --skip-bad --accept-left-out --strict --html --sarif --junit --json --help ;;
         where) echo --help ;;
@@ -19,7 +20,7 @@ _lockdep_options() {
 }
 
 _lockdep() {
-    local word=$2 before=$3 command=${COMP_WORDS[1]} commands='run provoke check explain graph condense chains record confirm gather where diff view help'
+    local word=$2 before=$3 command=${COMP_WORDS[1]} commands='run provoke check explain graph condense schedule chains record confirm gather where diff view help'
     local place
     # What `-o` names: a folder, or a file for `view`.
     local kind=-d
@@ -42,7 +43,7 @@ _lockdep() {
                         place=$((place + 1))
                         break
                         ;;
-                    -o | --recorder | --frames | --signals | --known | --write-known | --html | --sarif | --junit | --json | --accept-left-out | --error-exitcode | --from | --runs | --pause | --finding | --while | --stdin | --finish | --summary)
+                    -o | --recorder | --frames | --signals | --history | --known | --write-known | --html | --sarif | --junit | --json | --accept-left-out | --error-exitcode | --from | --runs | --pause | --finding | --while | --stdin | --finish | --histories | --summary)
                         place=$((place + 1))
                         ;;
                     = | -*) ;;
@@ -64,9 +65,10 @@ _lockdep() {
         --recorder) mapfile -t COMPREPLY < <(compgen -W 'pthread python java rust go embed' -- "$word") ;;
         --frames) mapfile -t COMPREPLY < <(compgen -W '1 2 3 4 6 8 12 16' -- "$word") ;;
         --signals) mapfile -t COMPREPLY < <(compgen -W 'off locks all' -- "$word") ;;
+        --history) mapfile -t COMPREPLY < <(compgen -W 'off 16 64 256 1024' -- "$word") ;;
         --known | --write-known | --html | --sarif | --junit | --json | --stdin | --list | --confirmed) mapfile -t COMPREPLY < <(compgen -f -- "$word") ;;
         --accept-left-out | --error-exitcode | --runs | --pause | --finding | --while | --processes | --scheduler | --group | --left-out | --waiting) ;;
-        --from | --finish | --summary) mapfile -t COMPREPLY < <(compgen -d -- "$word") ;;
+        --from | --finish | --histories | --summary) mapfile -t COMPREPLY < <(compgen -d -- "$word") ;;
         --workers) mapfile -t COMPREPLY < <(compgen -W '1 2 4 8 16 32 64' -- "$word") ;;
         *)
             case $word in

@@ -14,6 +14,6 @@ home = os.path.dirname(os.path.dirname(here))
 sys.dont_write_bytecode = (os.path.exists(os.path.join(home, "INSTALLED")) or os.stat(here).st_uid != os.geteuid() or
                            resource.getrlimit(resource.RLIMIT_FSIZE)[0] != resource.RLIM_INFINITY)
 sys.path.insert(0, os.path.dirname(here))
-from lockdep.driver import main  # noqa: E402
+from lockdep.cli.driver import main  # noqa: E402
 
 main(home, sys.argv[1:])

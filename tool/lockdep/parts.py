@@ -50,31 +50,34 @@ def keep_compiled() -> None:
 def main_of(part):
     """The function that runs a part."""
     if part == "view":
-        from lockdep.view import main
+        from lockdep.cli.view import main
     elif part == "where":
-        from lockdep.where import main
+        from lockdep.cli.where import main
     elif part == "confirm":
-        from lockdep.confirm import main
+        from lockdep.cli.confirm import main
+    elif part == "schedule":
+        from lockdep.cli.schedule import main
     elif part == "diff":
-        from lockdep.diff import main
+        from lockdep.cli.diff import main
     elif part == "gather":
-        from lockdep.gather import main
+        from lockdep.cli.gather import main
     elif part == "gather-process":
-        from lockdep.gather_engines import do_tasks as main
+        from lockdep.gather.engines import do_tasks as main
     elif part == "finish":
-        from lockdep.finish_embed import main
+        from lockdep.finish.finish_embed import main
     elif part == "refusal":
-        from lockdep.refusal import main
+        from lockdep.cli.refusal import main
     elif part == "check-known":
-        from lockdep.suppressions import main
+        from lockdep.known.suppressions import main
     else:
-        from lockdep.ending import main
+        from lockdep.cli.ending import main
     return main
 
 
 def run(part, words):
-    from lockdep.files import complain
-    from lockdep.words import Refusal, bytes_of, text_of
+    from lockdep.base.files import complain
+    from lockdep.base.saying import Refusal
+    from lockdep.base.words import bytes_of, text_of
     try:
         return main_of(part)([text_of(os.fsencode(word)) for word in words])
     except Refusal as refusal:

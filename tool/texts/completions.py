@@ -1,7 +1,7 @@
 """The completions for bash, zsh and fish, made from the table of options."""
 from __future__ import annotations
 
-from lockdep.options import PROVOKE, RECORD, RUN, Command, Kind, Option
+from lockdep.cli.options import PROVOKE, RECORD, RUN, Command, Kind, Option
 from other_commands import ALL
 
 RECORDED = (RUN, PROVOKE, RECORD)  # behind whose options a command follows

@@ -1,7 +1,7 @@
 """The commands that the driver doesn't take apart itself, as completions need them: those of the proved program, and those of the other scripts."""
 from __future__ import annotations
 
-from lockdep.options import FILE, GATHER, PROVOKE, RECORD, RUN, Command, Kind, Option
+from lockdep.cli.options import FILE, GATHER, PROVOKE, RECORD, RUN, Command, Kind, Option
 
 WORKERS_KIND, TEXT = Kind("a number from 1 to 64", "N", 64, "1 2 4 8 16 32 64"), Kind("a text", "TEXT")
 WORKERS = Option("--workers", WORKERS_KIND, "how many workers check the traces, from 1 to 64", "")
@@ -23,6 +23,8 @@ ALL = (
     command("graph", "write the lock order as a graph in the DOT language", "files", [
         WORKERS, MANY, Option("--findings", None, "show only what is part of a finding", "")]),
     command("condense", "write one trace that says what all of them say", "files", [WORKERS, MANY]),
+    command("schedule", "say whether recorded steps can stand still in another order", "files", [
+        Option("--json", None, "write the rings as JSON", "")]),
     command("chains", "list the acquisitions of a trace", "file", []),
     RECORD,
     command("confirm", "explain what was found in a recording, and what was seen between single locks", "folder", [

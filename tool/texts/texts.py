@@ -4,7 +4,7 @@ from __future__ import annotations
 import re
 import textwrap
 
-from lockdep.options import COMMANDS, RECORDINGS, Command, Option
+from lockdep.cli.options import COMMANDS, RECORDINGS, Command, Option
 
 WIDTH, WIDEST = 120, 26  # of a line of help, and of an option beside its text
 GLUE = "\xa0"  # a space that isn't the end of a line

@@ -1,0 +1,1 @@
+"""What a recording's traces are asked, and what is found."""

@@ -1,0 +1,1 @@
+"""What the files of programs show: symbols, source lines, what a program is linked with."""

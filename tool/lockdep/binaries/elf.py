@@ -1,0 +1,94 @@
+"""What a 64-bit ELF file has: its sections, its functions by their symbols, and which addresses lie within one."""
+from __future__ import annotations
+
+import struct
+from bisect import bisect_left
+from itertools import chain
+from typing import BinaryIO, Iterator, NamedTuple
+
+from ..base.files import is_file
+from ..base.words import bytes_of
+
+MAGIC = b"\x7fELF\x02\x01"  # 64 bits, the least byte first
+HEADER = struct.Struct("<16xHHIQQQIHHHHHH")
+SECTION = struct.Struct("<IIQQQQIIQQ")
+SYMBOL = struct.Struct("<IBBHQQ")
+TABLES = (2, 11)  # the sections .symtab and .dynsym
+NAMES = 3  # sections of names, such as those of the sections
+DEBUG_INFORMATION = b"\0.debug_info\0"
+FUNCTIONS = (2, 10)  # functions, and such as are chosen when they are loaded
+MOST_OF_TABLE = 1 << 28  # bytes
+UNDEFINED = 0
+
+
+class Section(NamedTuple):
+    """A section of a file."""
+
+    name: int
+    kind: int
+    flags: int
+    address: int
+    offset: int
+    size: int
+    link: int
+    info: int
+    alignment: int
+    of_entry: int
+
+    def content(self, file: BinaryIO) -> bytes:
+        file.seek(self.offset)
+        return file.read(min(self.size, MOST_OF_TABLE))
+
+
+def machine_and_sections(file: BinaryIO) -> tuple[int, list[Section]]:
+    """The number of a file's machine, and the file's sections."""
+    head = file.read(HEADER.size)
+    if not head.startswith(MAGIC):
+        return 0, []
+    _, machine, _, _, _, offset, _, _, _, _, size, count, _ = HEADER.unpack(head)
+    if size != SECTION.size:
+        return machine, []
+    file.seek(offset)
+    sections = file.read(size * count)
+    return machine, [Section(*words) for words in SECTION.iter_unpack(sections[:len(sections) - len(sections) % size])]
+
+
+def has_debug_information(program: str) -> bool:
+    """Whether a program has debug information in its own file; of one that can't be read that isn't known, as if it had."""
+    try:
+        with open(bytes_of(program), "rb") as file:
+            return any(DEBUG_INFORMATION in section.content(file) for section in machine_and_sections(file)[1] if section.kind == NAMES)
+    except (OSError, struct.error, MemoryError):
+        return True
+
+
+def whole_entries(table: bytes, entry: struct.Struct) -> Iterator[tuple[int, ...]]:
+    return entry.iter_unpack(table[:len(table) - len(table) % entry.size])
+
+
+def is_function(info: int, section: int) -> bool:
+    return info & 15 in FUNCTIONS and section != UNDEFINED
+
+
+def functions_of(module: str) -> Iterator[tuple[int, int]]:
+    """The first and the last address, exclusive, of each function that a module names."""
+    with open(bytes_of(module), "rb") as file:
+        tables = [section.content(file) for section in machine_and_sections(file)[1] if section.kind in TABLES]
+        for _, info, _, section, value, size in chain.from_iterable(whole_entries(table, SYMBOL) for table in tables):
+            if is_function(info, section) and size:
+                yield value, value + size
+
+
+def within_functions(module: str, addresses: list[int]) -> set[int]:
+    """Those of the addresses that lie within a function. A stripped program has symbols of few functions, and the nearest one is
+    another function than that of the address."""
+    wanted, found = sorted(addresses), set()
+    try:
+        for first, end in functions_of(module) if is_file(module) else ():
+            place = bisect_left(wanted, first)
+            while place < len(wanted) and wanted[place] < end:
+                found.add(wanted[place])
+                place += 1
+    except (OSError, struct.error, ValueError, MemoryError):
+        pass
+    return found

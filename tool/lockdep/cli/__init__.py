@@ -1,0 +1,1 @@
+"""The commands: from a command line to what does it."""

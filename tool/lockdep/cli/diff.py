@@ -1,0 +1,146 @@
+"""`lockdep diff`: the findings of two recordings beside each other: which are new, which are gone, and which are the same, by their
+names and by where their locks are made; and so what the programs did against what they say of their locks, by its classes and function."""
+from __future__ import annotations
+
+import json
+import os
+import sys
+from dataclasses import dataclass, field
+
+from ..ask.asking import ask_about
+from ..ask.blocked import sources_wanted
+from ..ask.breaches import breaches_in
+from ..ask.verdict import Recorded
+from ..base.files import need_output, print_file, text_named
+from ..base.home import HOME
+from ..base.saying import Refusal
+from ..base.words import class_of_lock, counted, name_in, type_of_class, visible
+from ..binaries.cplusplus import without_parameters
+from ..known.known import pattern_of
+from ..known.suppressions import pattern_text
+from ..places.sources import Sources, keys_of, sources_of
+from ..places.where_made import Place, place_now, place_of
+from ..program.findings import Finding, finding_of
+from ..record.complete import OF_GATHER, UNMADE, is_gathered, is_unmade
+from ..say.terminal import Writer, text_stream
+from ..say.verdict_words import verdict_of
+
+WHAT = "which is neither a recording's folder nor JSON of `lockdep run --json`"
+
+
+@dataclass
+class Side:
+    """A finding of one of the two, with where its locks are made, and what it was seen between."""
+
+    head: str
+    lines: frozenset[str]
+    seen: str = ""
+    places: dict[str, list[Place]] = field(default_factory=dict)
+
+    def is_same(self, other: Side) -> bool:
+        """Whether both are the same finding: of the same lines, and no lock is made elsewhere."""
+        shared = [name for name in self.places if name in other.places]
+        return self.lines == other.lines and all(
+            any(not one.is_elsewhere(another) for one in self.places[name] for another in other.places[name]) for name in shared)
+
+
+def side_of_finding(finding: Finding, seen: str, places: dict[str, list[Place]]) -> Side:
+    return Side(finding.head, frozenset(finding.lines), seen, {name: where for name, where in places.items() if where})
+
+
+def places_of(finding: Finding, sources: Sources) -> dict[str, list[Place]]:
+    """Where the locks of a finding are made, by types."""
+    places: dict[str, list[Place]] = {}
+    for made in dict.fromkeys(made for key in keys_of(finding) for made in sources.made_as(name_in(key))):
+        place = place_now(made, sources)
+        places.setdefault(type_of_class(made.name), []).extend([place] if place else [])
+    return places
+
+
+def sides_of_folder(folder: str) -> list[Side]:
+    asked = ask_about(folder)
+    if asked.is_refused or asked.left_out:
+        sys.stderr.buffer.write(asked.answer.said if asked.is_refused else asked.why_left_out)
+        raise Refusal("the traces of %s were refused" % visible(folder))
+    findings = [finding for finding in asked.findings() if not finding.is_note]
+    sources, recorded, breaches = sources_of(findings, [folder]), Recorded(asked.traces), breaches_in(folder)
+    sources_wanted(breaches, sources)
+    sources.ask()
+    return [side_of_finding(finding, verdict_of(finding, recorded), places_of(finding, sources)) for finding in findings] + [
+        Side(breach.sentence, frozenset([pattern_of(breach, sources)])) for breach in breaches]
+
+
+def side_of_json(number: int, said: dict) -> Side:
+    places: dict[str, list[Place]] = {}
+    for lock in said.get("locks", []):
+        places.setdefault(type_of_class(lock["class"]), []).append(place_of(lock["kind"], lock["place"]))
+    return side_of_finding(finding_of(number, said), said.get("verdict", ""), places)
+
+
+def is_note(number: int, said: dict) -> bool:
+    """Whether a finding of a file is a note, as those of a folder are that have a type nested in itself."""
+    return finding_of(number, said).is_note and "happened" not in said
+
+
+def side_of_breach(said: dict) -> Side:
+    """A breach of a file, by the same pattern as that of a folder."""
+    classes = [type_of_class(class_of_lock(name_in(key))) for key in said["keys"]]
+    frames = said["records"][0]["places"] if said["records"] else []
+    functions = [without_parameters(frame["function"]) for frame in frames if frame.get("function")]
+    return Side(said["sentence"], frozenset([pattern_text(said["type"], classes, functions[0] if functions else "")]))
+
+
+def sides_of_json(name: str) -> list[Side]:
+    """The findings of a file, with the places that it has."""
+    try:
+        said = json.loads(text_named(name, WHAT))
+        findings = [side_of_json(number, finding) for number, finding in enumerate(said["findings"], 1) if not is_note(number, finding)]
+        return findings + [side_of_breach(breach) for breach in said.get("breaches", [])]
+    except (ValueError, KeyError, TypeError, AttributeError, RecursionError) as error:
+        raise Refusal("%s, %s, can't be read: %s" % (visible(name), WHAT, visible(repr(error))))
+
+
+def sides_of(name: str) -> list[Side]:
+    if is_gathered(name):
+        raise Refusal(OF_GATHER % visible(name))
+    if is_unmade(name):
+        raise Refusal(UNMADE % visible(name))
+    return sides_of_folder(name) if os.path.isdir(name) else sides_of_json(name)
+
+
+def write_list(writer: Writer, word: str, sides: list[Side]) -> None:
+    for side in sides:
+        writer.line("%s: %s%s" % (word, side.head, "; " + side.seen if side.seen else ""))
+
+
+def write_sides(fresh: list[Side], gone: list[Side], same: list[Side]) -> None:
+    writer = Writer(text_stream(sys.stdout.fileno()))
+    writer.line("%s new, %s gone, %s the same" % (counted(len(fresh), "finding"), "{:,}".format(len(gone)), "{:,}".format(len(same))))
+    for word, sides in (("new", fresh), ("gone", gone), ("same", same)):
+        write_list(writer, word, sides)
+    writer.stream.flush()
+
+
+def main(words: list[str]) -> int:
+    need_output()
+    if words[:1] in (["-h"], ["--help"]):
+        print_file(os.path.join(HOME, "tool", "help", "diff"))
+        return 0
+    for word in words:
+        if word.startswith("-") and not os.path.exists(word):
+            raise Refusal("`diff` has no option `%s`; `lockdep diff --help` says how to call this" % visible(word))
+    if len(words) != 2:
+        raise Refusal("which two recordings? lockdep diff OLD NEW")
+    old, new = map(sides_of, words)
+    same = [side for side in new if any(side.is_same(other) for other in old)]
+    fresh = [side for side in new if side not in same]
+    gone = [side for side in old if not any(side.is_same(other) for other in new)]
+    try:
+        write_sides(fresh, gone, same)
+    except BrokenPipeError:
+        # A reader that has enough, as `head`, needs no message.
+        os.dup2(os.open(os.devnull, os.O_WRONLY), 1)
+        return 2
+    except OSError:
+        raise Refusal("the text can't be written")
+    return 1 if fresh else 0

@@ -1,0 +1,238 @@
+"""Says what to do about a refusal by the program: a line with the record in question, and what the table tool/words has for the code. What isn't
+certain isn't said. Texts have a character for each byte, since a terminal might interpret some."""
+from __future__ import annotations
+
+import os
+import re
+import signal
+
+from ..base.home import HOME
+from ..base.nearest import nearest
+from .refused_line import Facts as LineFacts
+from .refused_record import facts_of
+
+TABLE = os.path.join(HOME, "tool", "words")
+OF_TRACE = re.compile(r"lockdep: (.*): record (\d+): ([TS]\d|H\d+) .*", re.S)
+OF_FILE = re.compile(r"lockdep: (.*): P2 CannotOpen", re.S)
+OF_ELSE = re.compile(r"lockdep: ([A-Z]\d) [A-Z].*", re.S)
+LOOKED_AT = re.compile(r"T[1-5]|S\d")  # the codes that a record says more of
+PATIENCE = 5  # how many seconds a trace may be looked at
+PIECE = 1 << 18  # bytes that are read at once, and the longest line that is looked at
+MOST_PIECES = 320  # a million records whose names are as long as they may be
+MOST_LINES = 1_000_000  # of a record: what a double quote that is never closed may take in
+LONGEST_PATH = 60
+VERBS = ("acq", "rel", "enter", "leave", "on", "off")
+OTHER_VERBS = {"acquire": "acq", "lock": "acq", "take": "acq", "release": "rel", "unlock": "rel", "free": "rel"}
+
+TYPE_CHECKING = False  # for a tool that checks types, it is true
+if TYPE_CHECKING:
+    from typing import Any, BinaryIO
+
+
+def words_for(code: str, facts: dict[str, Any]) -> str:
+    """The table's words for a code and the case that was found, with the parts in brackets filled in."""
+    table = {}
+    with open(TABLE, encoding="latin-1") as file:
+        for line in file:
+            key, tab, text = line.rstrip("\n").partition("\t")
+            if tab and not key.startswith("#"):
+                table[key] = text
+    text = table.get("%s %s" % (code, facts.get("case"))) or table.get(code, "")
+    return re.sub(r"\{([a-z]+)\}", lambda name: str(facts.get(name.group(1), "")), text)
+
+
+def bytes_of(text: str) -> bytes:
+    return text.encode("latin-1")
+
+
+def visible(path: str) -> str:
+    """The name of a folder as a pattern of a shell, which stands for the same one, unless it is too long."""
+    return re.sub("[^ -~]", "?", path)[:LONGEST_PATH]
+
+
+# ---- A fault of a trace.
+
+def beginning(opened: BinaryIO, number: int) -> tuple[bytes, bool]:
+    """As much of a trace as it takes to look at a record, and whether that is all of it. The records before it are well
+    formed, and so they are short, and each one is a line."""
+    pieces: list[bytes] = []
+    lines = of_line = 0
+    while len(pieces) < MOST_PIECES and lines < number + MOST_LINES and of_line < PIECE:
+        piece = opened.read(PIECE)
+        if not piece:
+            return b"".join(pieces), True
+        pieces.append(piece)
+        lines += piece.count(b"\n")
+        of_line = len(piece) - piece.rfind(b"\n") - 1 + (0 if b"\n" in piece else of_line)
+    return b"".join(pieces), not opened.read(1)
+
+
+def content(file: str, words: list[str], number: int) -> tuple[bytes, bool] | None:
+    """What is in a trace up to a record, and whether that is all of it, if it can be read again as it was: none if it is
+    standard input, a pipe, has NUL bytes, or is one of the kernel's, of which reading may wait, as of /proc/kmsg."""
+    path = bytes_of(file)
+    if (file == "stdin" and "stdin" not in words) or not os.path.isfile(path) or os.path.realpath(path).startswith((b"/proc/", b"/sys/")):
+        return None
+    try:
+        with open(path, "rb") as opened:
+            raw, is_whole = beginning(opened, number)
+    except OSError:
+        return None
+    return None if b"\0" in raw else (raw, is_whole)
+
+
+def look_at_trace(file: str, words: list[str], code: str, number: int) -> dict[str, Any]:
+    """What the trace's own lines say, unless that takes too long."""
+    def give_up(*_: object) -> None:
+        raise TimeoutError
+    before = signal.signal(signal.SIGALRM, give_up)
+    signal.alarm(PATIENCE)
+    try:
+        read = content(file, words, number)
+        facts = facts_of(*read, code, number) if read else {}
+    except (TimeoutError, MemoryError):
+        facts = {}
+    finally:
+        signal.alarm(0)
+        signal.signal(signal.SIGALRM, before)
+    if "unknown" in facts:
+        note_verb(facts)
+    return facts
+
+
+def note_verb(facts: dict[str, Any]) -> None:
+    """The verb that was meant."""
+    verb = facts["unknown"].lower()
+    meant = verb if verb in VERBS else OTHER_VERBS.get(verb) or nearest(facts["unknown"], list(VERBS))
+    if meant:
+        facts.update(nearest=meant, case="verb")
+
+
+def asks_of_locks(words: list[str]) -> bool:
+    """Whether single locks are asked about."""
+    return words[:1] == ["explain"] and (has_flag("--locks", words) or has_flag("--confirmed-only", words))
+
+
+def has_flag(flag: str, words: list[str]) -> bool:
+    return flag in (words[:words.index("--")] if "--" in words else words)
+
+
+def case_of_many(words: list[str]) -> str | None:
+    """What there is room for depends on the command."""
+    command = words[0] if words else ""
+    if command == "chains":
+        return command
+    return "locks" if asks_of_locks(words) else "many" if has_flag("--many", words) else None
+
+
+def has_tasks(folder: str) -> bool:
+    """Whether a folder is that of a recording, or has traces of tasks: there are other files beside these."""
+    try:
+        names = os.listdir(bytes_of(folder))
+    except OSError:
+        return False
+    return any(name == b"SUMMARY" or name.startswith(b"task-") and name.endswith(b".csv") for name in names)
+
+
+def of_trace(file: str, number: int, code: str, words: list[str]) -> str:
+    facts: dict[str, Any] = {}
+    if code == "T1" and file.endswith(".csv.places"):
+        facts["case"] = "places"
+    elif LOOKED_AT.fullmatch(code):
+        facts = look_at_trace(file, words, code, number)
+    if os.path.isdir(bytes_of(file)):
+        folder = file[:-1] if file.endswith("/") else file
+        facts.update(case="folder", file="%s/%s" % (visible(folder), "task-*.csv" if has_tasks(file) else "*"))
+    if code == "S1" and "lock" not in facts:  # without its record, nothing can be said about the lock
+        facts["case"] = "unknown"
+    if code == "T6":
+        facts["case"] = case_of_many(words)
+    return where(facts) + words_for(code, facts)
+
+
+def where(facts: dict[str, Any]) -> str:
+    if "first" not in facts:
+        return ""
+    if facts["last"] is None:
+        return "it begins on line %d: " % facts["first"]
+    if facts["first"] == facts["last"]:
+        return "line %d is '%s': " % (facts["first"], facts["text"])
+    return "it stands on the lines %d to %d: " % (facts["first"], facts["last"])
+
+
+# ---- A file that can't be opened.
+
+def ends_nowhere(path: bytes) -> bool:
+    """Whether a path leads through a link at whose end there is nothing."""
+    while not os.path.exists(path):
+        if os.path.islink(path):
+            return True
+        path = os.path.dirname(path) or b"."
+    return False
+
+
+def hiding_folder(path: bytes) -> bytes | None:
+    """The folder on the way to a path that can't be searched, so that nothing is known of what is in it, if there is one."""
+    folder = os.path.dirname(path) or b"."
+    while not os.path.isdir(folder) and folder != (os.path.dirname(folder) or b"."):
+        folder = os.path.dirname(folder) or b"."
+    return None if os.access(folder, os.X_OK) else folder
+
+
+def of_file(file: str) -> str:
+    path = bytes_of(file)
+    facts: dict[str, Any] = {}
+    if not os.path.exists(path):
+        facts["case"] = "hyphen" if file.rpartition("/")[2] == "-" else "pattern" if "*" in file else None
+    hidden = hiding_folder(path)
+    if ends_nowhere(path):
+        facts["case"] = "link"
+    elif is_socket(path):
+        facts["case"] = "socket"
+    elif os.access(path, os.R_OK):
+        facts["case"] = "unopened"
+    elif os.path.exists(path):
+        facts["case"] = "rights"
+    elif hidden is not None:
+        facts.update(case="hidden", folder=visible(hidden.decode("latin-1")))
+    return words_for("P2", facts)
+
+
+def is_socket(path: bytes) -> bool:
+    import stat
+    try:
+        return stat.S_ISSOCK(os.stat(path).st_mode)
+    except OSError:
+        return False
+
+
+# ---- All refusals.
+
+def advice(program: str, line: str, words: list[str]) -> str:
+    """What is said under the program's line, or nothing."""
+    trace, file, other = OF_TRACE.fullmatch(line), OF_FILE.fullmatch(line), OF_ELSE.fullmatch(line)
+    if trace:
+        return of_trace(trace.group(1), int(trace.group(2)), trace.group(3), words)
+    if file:
+        return of_file(file.group(1))
+    if line == "lockdep: P1 BadCommandLine":
+        facts = LineFacts(program)
+        facts.look_at(words)
+        return words_for("P1", facts)
+    if not other:
+        return ""
+    code = other.group(1)
+    is_pipe = code == "P3" and os.environ.get("LOCKDEP_OUTPUT") == "pipe"
+    return words_for(code, {"case": "pipe" if is_pipe else "types" if code == "M1" and asks_of_locks(words) else None})
+
+
+def said(program: str, line: bytes, words: list[bytes]) -> bytes:
+    """The same as a line, or none."""
+    text = advice(program, line.decode("latin-1"), [word.decode("latin-1") for word in words])
+    return bytes_of("lockdep: %s\n" % text) if text else b""
+
+
+def main(words: list[str]) -> int:
+    program, line, *rest = (os.fsencode(word) for word in words)
+    os.write(1, said(os.fsdecode(program), line, rest))
+    return 0

@@ -1,0 +1,1 @@
+"""From what a program's processes wrote to the traces and the summary."""

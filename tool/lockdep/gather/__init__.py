@@ -1,0 +1,1 @@
+"""Recordings of many machines together."""

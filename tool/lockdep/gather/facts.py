@@ -1,0 +1,195 @@
+"""What recordings say together: one condensed trace, and which recordings have which orders. It is put together in steps.
+
+The checker takes 8,192 keys. If there are more, single locks are folded: a lock becomes one of `CLASS#rest`, which stands for several locks, so what is
+known between classes stays the same. Those in the fewest orders go first. A lock is kept if those that rank before it leave room for it beside all
+classes; that is so in all recordings only if it is in each part of them, so the locks that are left don't depend on the grouping. (They may where one
+trace can't say so much, or too many keys lead to one another, since then half of those that a part has left are folded.)"""
+from __future__ import annotations
+
+import os
+import pickle
+import subprocess
+import tempfile
+import zlib
+from typing import IO
+
+from ..base.saying import Refusal
+from ..program.checker import REFUSED, Answer
+from .gathered import Listed
+from .names import is_rest, keys_in, name_of_key, quoted, rest_of, with_names
+from .orders import Number, Seen, Table, merge_tables
+
+MOST_KEYS = 8192
+MOST_EVENTS = 1_000_000  # of a trace
+MOST_TRACES = 4096  # of a run
+HEADER = b"lockdep,1\n"
+TOO_LONG = b"E3 TooLong"
+TOO_MANY, TOO_TANGLED = b"T6 TooManyKeys", b"M1 TooTangled"
+TOO_MUCH = {TOO_MANY: "more than 8,192 lock classes", TOO_LONG: "more orders than one trace can say",
+            TOO_TANGLED: "more than 256 lock classes that lead to one another"}
+
+
+FOLDED = b"folded-for "  # begins what is said of why locks were folded
+TOO_LONG_NAME = b"long-names"
+WHY_FOLDED = {TOO_MANY: b"keys", TOO_LONG: b"events", TOO_TANGLED: b"tangles"}
+
+
+class Program:
+    """The checker's program, which is asked to condense."""
+
+    def __init__(self, path: str) -> None:
+        self.path = path
+
+    def ask(self, files: list[str], descriptors: tuple[int, ...] = ()) -> Answer:
+        words = [self.path, "condense", "--many", "--workers", "1", "--"] + [os.fsencode(name) for name in files]
+        try:
+            done = subprocess.run(words, stdin=subprocess.DEVNULL, stdout=subprocess.PIPE, stderr=subprocess.PIPE, pass_fds=descriptors)
+        except OSError as error:
+            raise Refusal("%s can't be run: %s" % (self.path, error.strerror), 3)
+        if done.returncode < 0:
+            raise Refusal("the checker was ended by signal %d" % -done.returncode)
+        return Answer(done.stdout, done.returncode, done.stderr)
+
+    def condensed(self, files: list[str]) -> Answer:
+        """One trace that says what these do, of which there may be more than a run takes."""
+        if len(files) <= MOST_TRACES:
+            return self.ask(files)
+        answers = [self.ask(files[at:at + MOST_TRACES]) for at in range(0, len(files), MOST_TRACES)]
+        refused = next((answer for answer in answers if answer.status >= REFUSED), None)
+        return refused or self.condensed_texts([answer.output for answer in answers])
+
+    def condensed_texts(self, texts: list[bytes]) -> Answer:
+        """The same of traces that are no files. Those that were condensed can be joined: at the end nothing is held, and all is as at the beginning."""
+        files = [file_with(group) for group in joined(texts)]
+        try:
+            return self.ask(["/dev/fd/%d" % file.fileno() for file in files], tuple(file.fileno() for file in files))
+        finally:
+            for file in files:
+                file.close()
+
+
+def file_with(texts: list[bytes]) -> IO[bytes]:
+    """Condensed traces as one, in a file without a name, which is gone when the process is."""
+    file = tempfile.TemporaryFile()
+    file.write(HEADER)
+    for text in texts:
+        file.write(memoryview(text)[len(HEADER):])
+    file.flush()
+    return file
+
+
+def joined(texts: list[bytes]) -> list[list[bytes]]:
+    """Condensed traces in groups, each of which has no more events than a trace may have."""
+    groups: list[list[bytes]] = []
+    room = 0
+    for text in texts:
+        events = text.count(b"\n") - 1
+        if events > room or not groups:
+            groups.append([])
+            room = MOST_EVENTS
+        groups[-1].append(text)
+        room -= events
+    return groups
+
+
+class Facts:
+    """What some recordings say: condensed traces, which are one once they are merged, and what is known beside them."""
+
+    def __init__(self, texts: list[bytes] | None = None) -> None:
+        self.texts = texts or []
+        self.orders: Table = {}
+        self.locks: dict[bytes, int] = {}  # in how many orders each single lock is that is kept
+        self.lists: Table = {}  # the recordings of which something is to be said
+        self.recordings = self.traces = self.folded = self.left_out = 0
+        self.bad: list[tuple[Number, str]] = []
+        self.sums: dict[Number, int] = {}  # of what each recording says
+        self.listed: list[Listed] = []  # the recordings of what was gathered before
+        self.room = MOST_KEYS  # for single locks
+
+    def packed(self) -> bytes:
+        return zlib.compress(pickle.dumps(self.__dict__, 4), 1)
+
+    @classmethod
+    def unpacked(cls, raw: bytes) -> Facts:
+        facts = cls()
+        facts.__dict__.update(pickle.loads(zlib.decompress(raw)))
+        return facts
+
+
+def merged(program: Program, parts: list[Facts]) -> Facts:
+    """What several parts say together, in one condensed trace."""
+    facts = Facts([text for part in parts for text in part.texts])
+    facts.orders, facts.lists = merge_tables([part.orders for part in parts]), merge_tables([part.lists for part in parts])
+    for part in parts:
+        facts.locks.update(part.locks)
+        facts.recordings += part.recordings
+        facts.traces += part.traces
+        facts.folded += part.folded
+        facts.left_out += part.left_out
+        facts.bad += part.bad
+        facts.listed += part.listed
+        facts.sums.update(part.sums)
+        facts.room = min(facts.room, part.room)
+    condense(program, facts)
+    return facts
+
+
+def condense(program: Program, facts: Facts) -> None:
+    """Makes one trace of all. If it can't say so much, or too many keys lead to one another, as by way of a lock that stands for several, fewer
+    single locks are told apart."""
+    if not facts.texts:
+        return
+    fold(facts, TOO_MANY)
+    answer = program.condensed_texts(facts.texts)
+    while answer.status >= REFUSED and (TOO_LONG in answer.said or TOO_TANGLED in answer.said) and facts.locks:
+        facts.room = min(facts.room, len(facts.locks)) // 2
+        fold(facts, TOO_LONG if TOO_LONG in answer.said else TOO_TANGLED)
+        answer = program.condensed_texts(facts.texts)
+    if answer.status >= REFUSED:
+        raise Refusal(why_refused(answer))
+    facts.texts = [answer.output]
+
+
+def why_refused(answer: Answer) -> str:
+    """Why all recordings together can't be checked, even with no single locks told apart."""
+    much = next((words for code, words in TOO_MUCH.items() if code in answer.said), "")
+    return "all recordings together have %s: gather them by program, or record one subsystem at a time" % much if much else answer.reason
+
+
+# ---- Folding.
+
+def fold(facts: Facts, why: bytes) -> None:
+    """Folds as many single locks as there is no room for, and keeps why."""
+    keys = {key for text in facts.texts for key in keys_in(text)}
+    of_locks = keys_of_locks(keys, facts.locks)
+    if len(keys) <= MOST_KEYS and len(of_locks) <= facts.room:
+        return
+    others = keys - {key for several in of_locks.values() for key in several}
+    others |= {quoted(rest_of(name)) + key[-len(",0"):] for name, several in of_locks.items() for key in several}
+    room = min(facts.room, MOST_KEYS - len(others))
+    gone = beyond(sorted(of_locks, key=lambda name: (-facts.locks[name], name)), of_locks, room)
+    facts.folded += sum(not is_rest(name) for name in gone)
+    facts.lists.update({FOLDED + WHY_FOLDED[why]: Seen()} if gone else {})
+    for name in gone:
+        del facts.locks[name]
+    names = {name: rest_of(name) for name in gone}
+    facts.texts = [with_names(text, names) for text in facts.texts]
+
+
+def keys_of_locks(keys: set[bytes], locks: dict[bytes, int]) -> dict[bytes, list[bytes]]:
+    """The keys of each single lock; they differ in the subclass."""
+    of_locks: dict[bytes, list[bytes]] = {}
+    for key in keys:
+        name = name_of_key(key)
+        if name in locks:
+            of_locks.setdefault(name, []).append(key)
+    return of_locks
+
+
+def beyond(ranked: list[bytes], of_locks: dict[bytes, list[bytes]], room: int) -> list[bytes]:
+    """The locks for whose keys there is no room, from the first such one on."""
+    for place, name in enumerate(ranked):
+        room -= len(of_locks[name])
+        if room < 0:
+            return ranked[place:]
+    return []

@@ -1,0 +1,1 @@
+"""Lists of known findings, and what of a result they name."""

@@ -1,0 +1,195 @@
+"""Lists of known findings: their grammar, what an entry hides, and when it is stale.
+
+A list has, one a line: the lines of findings of a report; patterns, as `cycle class:Session::m function:flush_*`; comments that
+begin with `#`; and blank lines. An entry may end with a reason, `# by design until 2027-03-01`. The comments `#   NAME: PLACE`
+under a line of a report say where its locks were made when it was written, and one as `#   seen only between classes` what its
+findings were seen between; lists of earlier versions don't have that one."""
+from __future__ import annotations
+
+import os
+import re
+import time
+from dataclasses import dataclass, field
+from fnmatch import fnmatchcase
+
+from ..base.saying import Refusal
+from ..base.words import visible
+from ..places.where_made import Place, place_of
+from ..program.kinds import SEEN, Kind
+
+STATE = r"(?:hardirq|softirq|SIG[A-Z0-9]+(?:[+-][0-9]+)?:\S*)"  # what comes in: an interrupt, or a signal with its handler
+LINE = re.compile(r"(circle \S+/[0-7] [ES][RN]|double %s|inversion %s \S+/[0-7]) \S+/[0-7]" % (STATE, STATE))
+FIELD = re.compile(r"(class|module|function|file|signal|verdict):(\S+)")
+PATTERN = re.compile(r"(cycle|circle|double|inversion|blocked|order|hold)((?: +%s)+)" % FIELD.pattern.replace("(", "(?:"))
+UNTIL = re.compile(r"\buntil\b", re.IGNORECASE)
+DATE = re.compile(r"\buntil (\d{4}-\d{2}-\d{2})\s*$", re.IGNORECASE)
+PLACE = re.compile(r"#   ([^ ]+): (made in|any object of|the class object of|\S+) (.+)")
+TEXT = re.compile(r"#     at (.+?:\d+): (.+)")  # how the line of a caller reads, under its place
+REASON = re.compile(r"\s+# ?(.*)$")
+BEGINS_WITH_LINE = re.compile(LINE.pattern + r"(?!\S)")  # the names in one may begin with # too
+WHAT = "the list of known findings"
+LIBRARIES = os.path.join(os.path.dirname(os.path.abspath(__file__)), "libraries.known")  # known findings of libraries, which come with the tool
+NO_FINDING = "%s: line %d is no finding: a line is a circle, double or inversion of a report, a pattern, " \
+    "a comment (#), or blank"
+NO_VERDICT = "%s: line %d has a `verdict:` that is none; the verdicts are %s"
+NO_DATE = "%s: line %d has a reason with `until` and no date at its end, such as `until 2027-03-01`"
+CYCLE = "circle"  # as reports have it
+
+
+KINDS = list(SEEN)  # the strongest first
+# The comment under a line of a report that says what its findings were seen between when the list was written: the strongest of it.
+VERDICT = {"#   " + words: kind for kind, words in SEEN.items()}
+# As a pattern has it, in one word. One that hides what was made to happen says no verdict.
+UP_TO = {words.replace(",", "").replace(" ", "-"): kind for kind, words in SEEN.items() if kind is not Kind.HAPPENED}
+
+
+def strength(kind: Kind) -> int:
+    """The place of a verdict among all, from the strongest on. A mixed one is as strong as the strongest of which it is mixed."""
+    return min(KINDS.index(each) for each in kind.needs or [kind])
+
+
+@dataclass
+class Entry:
+    """An entry of a list: a line of a report with places, or a pattern."""
+
+    number: int
+    text: str
+    line: str = ""
+    type: str = ""
+    fields: list[tuple[str, str]] = field(default_factory=list)
+    until: str = ""
+    reason: str = ""
+    places: dict[str, Place] = field(default_factory=dict)
+    last: str = ""  # the name whose place was read last
+    kind: Kind | None = None  # the strongest verdict that a line of a report excuses, if that is known
+    most: Kind | None = None  # the strongest verdict that a pattern hides, if it says one
+
+    @property
+    def is_pattern(self) -> bool:
+        return not self.line
+
+    def is_expired(self, today: str) -> bool:
+        return bool(self.until) and today > self.until
+
+    def excuses(self, kind: Kind | None) -> bool:
+        """Whether a line of a report may hide a finding with this verdict, which isn't stronger than the one of the list. If one of
+        them isn't known, it may."""
+        return None in (self.kind, kind) or strength(kind) >= strength(self.kind)
+
+    def hides(self, type: str, classes: list[tuple[str, ...]], frames: list[tuple[str, str]], signal: str = "",
+              modules: list[str] = (), kind: Kind | None = None) -> bool:
+        """Whether a pattern fits a finding: each of its classes, by one of its names, fits one of the pattern's, if that names any,
+        and was made in such a module; a record of the finding comes from such a function and file, its signal is such a one, and
+        its verdict isn't stronger, if it names these. An unknown verdict is no such one, and an unknown module neither."""
+        of_classes, of_modules, functions, files, signals = ([pattern for name, pattern in self.fields if name == wanted]
+                                                             for wanted in ("class", "module", "function", "file", "signal"))
+        if self.type != type or signals and not fits_one(signal, signals):
+            return False
+        if self.most and (kind is None or strength(kind) < strength(self.most)):
+            return False
+        if of_modules and not (modules and all(module and fits_one(module, of_modules) for module in modules)):
+            return False
+        if of_classes and not all(any(fits_one(name, of_classes) for name in names) for names in classes):
+            return False
+        if not functions and not files:
+            return True
+        return any((not functions or fits_one(function, functions)) and (not files or fits_path(path, files))
+                   for function, path in frames)
+
+
+def escaped(text: str) -> str:
+    """A text as a pattern that fits it alone. Patterns have no spaces, so each of its own may be any letter."""
+    return "".join("[%s]" % letter if letter in "*?[" else "?" if letter.isspace() else letter for letter in text)
+
+
+def pattern_text(type: str, classes: list[str], function: str) -> str:
+    """The pattern that fits what has these classes and comes from this function, if that is known."""
+    fields = ["class:" + escaped(name) for name in dict.fromkeys(classes)] + (["function:" + escaped(function)] if function else [])
+    return " ".join([type] + fields)
+
+
+def fits_one(text: str, patterns: list[str]) -> bool:
+    return any(fnmatchcase(text, pattern) for pattern in patterns)
+
+
+def fits_path(path: str, patterns: list[str]) -> bool:
+    """Whether a path fits a pattern, from its beginning or from one of its folders on."""
+    parts = path.split("/")
+    return any(fits_one("/".join(parts[place:]), patterns) for place in range(len(parts)))
+
+
+def date_of(reason: str, name: str, number: int) -> str:
+    """The date at the end of a reason; empty if it speaks of none. One that can't be read is refused: it would hide for ever."""
+    if not UNTIL.search(reason):
+        return ""
+    found = DATE.search(reason)
+    try:
+        from datetime import datetime
+        datetime.strptime(found.group(1) if found else "", "%Y-%m-%d")
+    except ValueError:
+        raise Refusal(NO_DATE % (visible(name), number))
+    return found.group(1)
+
+
+def entry_of(number: int, text: str, name: str) -> Entry:
+    """The entry of a line that is neither blank nor a comment."""
+    line = BEGINS_WITH_LINE.match(text)
+    reason = REASON.search(text, line.end() if line else 0)
+    bare = text[:reason.start()] if reason else text
+    entry = Entry(number, bare)
+    pattern = PATTERN.fullmatch(bare)
+    if LINE.fullmatch(bare):
+        entry.line, entry.type = bare, bare.partition(" ")[0]
+    elif pattern:
+        entry.type = CYCLE if pattern.group(1) == "cycle" else pattern.group(1)
+        entry.fields = FIELD.findall(pattern.group(2))
+        entry.most = most_of(entry, name)
+    else:
+        raise Refusal(NO_FINDING % (visible(name), number))
+    entry.reason = reason.group(1) if reason else ""
+    entry.until = date_of(entry.reason, name, number)
+    return entry
+
+
+def most_of(entry: Entry, name: str) -> Kind | None:
+    """The strongest verdict that a pattern hides, if it says one. A word that is none is refused."""
+    words = [word for field_name, word in entry.fields if field_name == "verdict"]
+    if not set(words) <= set(UP_TO):
+        raise Refusal(NO_VERDICT % (visible(name), entry.number, ", ".join(UP_TO)))
+    return min((UP_TO[word] for word in words), key=strength, default=None)
+
+
+def take_comment(entry: Entry, line: str) -> None:
+    """Takes what a comment says of the entry above it, if it says something."""
+    place = PLACE.fullmatch(line)
+    if place:
+        entry.last = place.group(1)
+        entry.places[entry.last] = place_of(place.group(2), place.group(3))
+    text = TEXT.fullmatch(line)
+    if text and entry.last:
+        entry.places[entry.last] = entry.places[entry.last].with_text(text.group(1), text.group(2))
+    entry.kind = VERDICT.get(line, entry.kind)
+
+
+def entries_of(text: str, name: str) -> list[Entry]:
+    """The entries of a list. A line that is none is refused."""
+    entries: list[Entry] = []
+    for number, line in enumerate(text.splitlines(), 1):
+        line = line.strip()
+        if line and not line.startswith("#"):
+            entries.append(entry_of(number, line, name))
+        elif entries:
+            take_comment(entries[-1], line)
+    return entries
+
+
+def today() -> str:
+    return time.strftime("%Y-%m-%d")
+
+
+def main(words: list[str]) -> int:
+    """Refuses a list on standard input that isn't one; its name stands in the words."""
+    import sys
+    from ..base.words import text_of
+    entries_of(text_of(sys.stdin.buffer.read()), words[0])
+    return 0

@@ -1,0 +1,1 @@
+"""Where the records and locks of a recording are in the source."""

@@ -1,0 +1,1 @@
+"""The proved program, which is asked, and its answers as values."""

@@ -1,0 +1,1 @@
+"""Further runs in which a finding is made to happen."""

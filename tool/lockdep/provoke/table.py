@@ -1,0 +1,238 @@
+"""What the threads of a provoked run hold and wait for: the file that recorders/pthread/provoke/provoke.h describes, and the cycles in it; and
+what the numbers of its callers and locks mean."""
+from __future__ import annotations
+
+import mmap
+import os
+import struct
+from dataclasses import dataclass
+from typing import Optional, Tuple
+
+from ..base.words import text_of
+
+MOST_ORDERS = 64
+MOST_THREADS = 1024
+MOST_HELD = 48
+MOST_CALLERS = 16
+CALLERS_OF_HELD = 8
+HEAD, COUNTS = struct.Struct("=8sII"), struct.Struct("=4I")
+THREAD, HELD = struct.Struct("=iiIIIIQII%dQII" % MOST_CALLERS), struct.Struct("=QIIQ%dQ" % CALLERS_OF_HELD)
+MAGIC = b"provoke1"
+TEXTS = ".texts"  # behind the name of the file: another one, with a line for each place and name that the program's language has in words
+SIZE_OF_THREAD = THREAD.size + MOST_HELD * HELD.size
+FIRST_THREAD = HEAD.size + MOST_ORDERS * COUNTS.size
+SIZE = FIRST_THREAD + MOST_THREADS * SIZE_OF_THREAD
+BITS_OF_CLASS = 28  # of a lock that isn't known by its address
+STANDS, WAITS = 1, 2
+WRITES, READS_BEHIND = 0, 2  # the latter also waits for readers, if a writer that waits for them is before it
+
+
+@dataclass(frozen=True)
+class Counts:
+    """Of an order: how often its second lock was asked for, how often so with the first one held, how often a thread stood there, and how often a
+    task asked for it that isn't held back."""
+
+    reached: int
+    under: int
+    pauses: int
+    aside: int
+
+
+@dataclass(frozen=True)
+class Held:
+    """A lock that a thread holds; `orders` has a bit for each order of which it is known as the first lock."""
+
+    lock: int
+    mode: int
+    orders: int
+    callers: tuple[int, ...]
+
+
+@dataclass(frozen=True)
+class Thread:
+    """A thread as the file has it. `order` is the planned one that it stood at, from 1 on, or 0; `changes` is another number after each change;
+    `name` is where the program's language has its name, or 0."""
+
+    process: int
+    thread: int
+    changes: int
+    state: int
+    order: int
+    mode: int
+    awaited: int
+    callers: tuple[int, ...]
+    name: int
+    held: tuple[Held, ...]
+
+    def is_in_the_way(self, other: Thread, behind: set[tuple[int, int]]) -> bool:
+        """Whether it holds what the other one waits for. Of each process those locks are known which writers wait for."""
+        return self.process == other.process and any(
+            held.lock == other.awaited and (WRITES in (held.mode, other.mode) or (
+                other.mode == READS_BEHIND and (other.process, other.awaited) in behind)) for held in self.held)
+
+    def hold_before(self, other: Thread) -> Held:
+        """The lock of this thread's that the other one waits for."""
+        return next(held for held in self.held if held.lock == other.awaited)
+
+
+class Table:
+    """The file of one run."""
+
+    def __init__(self, path: str) -> None:
+        self.path = path
+        with open(path, "wb") as file:
+            file.write(HEAD.pack(MAGIC, MOST_ORDERS, MOST_THREADS))
+            file.flush()
+            os.posix_fallocate(file.fileno(), 0, SIZE)  # a full disk is met here, and not where it is read or written
+        with open(path + TEXTS, "wb") as file:
+            file.write(MAGIC + b"\n")
+        with open(path, "rb") as file:
+            self.raw = mmap.mmap(file.fileno(), SIZE, access=mmap.ACCESS_READ)
+
+    def remove(self) -> None:
+        os.unlink(self.path)
+        os.unlink(self.path + TEXTS)
+
+    def counts(self, order: int) -> Counts:
+        return Counts(*COUNTS.unpack_from(self.raw, HEAD.size + order * COUNTS.size))
+
+    def threads(self) -> list[Thread]:
+        """All threads that there are."""
+        starts = range(FIRST_THREAD, SIZE, SIZE_OF_THREAD)
+        return [self.thread_at(start) for start in starts if self.raw[start:start + 4] != b"\0\0\0\0"]
+
+    def thread_at(self, start: int) -> Thread:
+        process, thread, changes, state, order, mode, awaited, depth, held_count, *rest = THREAD.unpack_from(self.raw, start)
+        places = [start + THREAD.size + n * HELD.size for n in range(min(held_count, MOST_HELD))]
+        held = tuple(self.held_at(place) for place in places)
+        return Thread(process, thread, changes, state, order, mode, awaited, tuple(rest[:min(depth, MOST_CALLERS)]), rest[-1],
+                      tuple(each for each in held if each.lock))
+
+    def held_at(self, start: int) -> Held:
+        lock, mode, depth, orders, *callers = HELD.unpack_from(self.raw, start)
+        return Held(lock, mode, orders, tuple(callers[:depth]))
+
+
+def cycle_in(threads: list[Thread]) -> list[Thread]:
+    """Threads that wait for one another: each for a lock that the next one holds. Empty if there are none."""
+    waiting = [thread for thread in threads if thread.state == WAITS]
+    behind = {(thread.process, thread.awaited) for thread in waiting if thread.mode == WRITES}
+    for first in waiting:
+        path = path_back(first, first, waiting, behind, {first.thread})
+        if path:
+            return path
+    return []
+
+
+def path_back(at: Thread, first: Thread, waiting: list[Thread], behind: set[tuple[int, int]], seen: set[int]) -> list[Thread]:
+    """The threads from this one to the first one, which is in the way of the last."""
+    if first.is_in_the_way(at, behind):
+        return [at]
+    for other in waiting:
+        if other.thread in seen or not other.is_in_the_way(at, behind):
+            continue
+        seen.add(other.thread)
+        rest = path_back(other, first, waiting, behind, seen)
+        if rest:
+            return [at] + rest
+    return []
+
+
+def state_of(process: int, thread: int) -> str:
+    """The letter that the kernel has for the state of a thread; empty if it isn't there."""
+    try:
+        with open("/proc/%d/task/%d/stat" % (process, thread), "rb") as file:
+            return file.read().rpartition(b")")[2].split()[0].decode()
+    except (OSError, IndexError):
+        return ""
+
+
+def sleeps(thread: Thread) -> bool:
+    """Whether the kernel has the thread asleep."""
+    return state_of(thread.process, thread.thread) == "S"
+
+
+def name_of_thread(thread: Thread) -> str:
+    """The thread's name, as the program or the system gave it."""
+    try:
+        with open("/proc/%d/task/%d/comm" % (thread.process, thread.thread), encoding="utf-8", errors="surrogateescape") as file:
+            return file.read().rstrip("\n")
+    except OSError:
+        return ""
+
+
+# ---- What the numbers mean.
+
+Place = Tuple[str, Optional[int]]  # a module and an offset in it, or a place in words
+
+EXECUTABLE_AT_ITS_ADDRESS = 2  # the type of an ELF file that isn't moved when it is loaded
+
+
+def is_moved(path: str) -> bool:
+    """Whether a module's addresses are counted from where it was loaded."""
+    try:
+        with open(path, "rb") as file:
+            head = file.read(18)
+        return len(head) < 18 or struct.unpack_from("=H", head, 16)[0] != EXECUTABLE_AT_ITS_ADDRESS
+    except OSError:
+        return True
+
+
+class Modules:
+    """Where the modules of a process are. Callers and locks are addresses in them."""
+
+    def __init__(self, thread: Thread, table: Table) -> None:
+        self.parts: list[tuple[int, int, str]] = []
+        self.bases: dict[str, int] = {}
+        try:
+            # (by a thread that is there: of a process whose first one has ended the system has none)
+            with open("/proc/%d/task/%d/maps" % (thread.process, thread.thread), encoding="utf-8", errors="surrogateescape") as file:
+                for line in file:
+                    self.take(line.rstrip("\n").split(None, 5))
+        except OSError:
+            pass
+
+    def take(self, words: list[str]) -> None:
+        """Takes a line of /proc/PID/maps. Memory without a file behind a module's is the module's too: what is zero at first."""
+        start, end = (int(word, 16) for word in words[0].split("-"))
+        if len(words) < 6 and self.parts and self.parts[-1][1] == start:
+            self.parts.append((start, end, self.parts[-1][2]))
+        if len(words) < 6 or words[5][:1] != "/":
+            return
+        self.parts.append((start, end, words[5]))
+        if words[5] not in self.bases:
+            self.bases[words[5]] = start - int(words[2], 16) if is_moved(words[5]) else 0
+
+    def place(self, address: int) -> Place | None:
+        """The module and the offset of an address."""
+        path = next((path for start, end, path in self.parts if start <= address < end), None)
+        return (path, address - self.bases[path]) if path else None
+
+    def lock(self, number: int) -> tuple[str, Place | None]:
+        """What tells a lock apart from others of its class, and its place."""
+        return "at %#x" % number, self.place(number)
+
+    def name(self, thread: Thread) -> str:
+        return name_of_thread(thread)
+
+
+class Texts(Modules):
+    """The lines that a program's language has of its callers and names, which are where they begin. A lock is a number of its own before the
+    line with its class, which it has as its place."""
+
+    def __init__(self, thread: Thread, table: Table) -> None:
+        with open(table.path + TEXTS, "rb") as file:
+            self.raw = file.read()
+
+    def line(self, number: int) -> str:
+        return text_of(self.raw[number:].partition(b"\n")[0]) if number else ""
+
+    def place(self, address: int) -> Place | None:
+        line = self.line(address)
+        return (line, None) if line else None
+
+    def lock(self, number: int) -> tuple[str, Place | None]:
+        return "number %d" % (number >> BITS_OF_CLASS), self.place(number & (1 << BITS_OF_CLASS) - 1)
+
+    def name(self, thread: Thread) -> str:
+        return self.line(thread.name) or name_of_thread(thread)

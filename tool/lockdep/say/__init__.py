@@ -1,0 +1,1 @@
+"""What a person reads: text, page, SARIF, JUnit, JSON."""

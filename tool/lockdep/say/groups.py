@@ -1,0 +1,41 @@
+"""Findings that share an order are one group: often it is one order that contradicts many others."""
+from __future__ import annotations
+
+from dataclasses import dataclass
+from typing import Tuple
+
+from ..program.findings import Finding
+
+Dependency = Tuple[str, str, str]
+Key = Tuple[Dependency, object]  # an order, and a signal's handler if the findings have one
+
+
+@dataclass
+class Group:
+    """Findings, in their order, that all have one order, which is empty if there is only one finding."""
+
+    findings: list[Finding]
+    shared: str = ""
+
+
+def holders_of(findings: list[Finding]) -> dict[Key, list[Finding]]:
+    """For each order the findings that have it. Those of a signal's handler are none of others."""
+    holders: dict[Key, list[Finding]] = {}
+    for finding in findings:
+        for dependency in dict.fromkeys(order.dependency for order in finding.orders):
+            holders.setdefault((dependency, finding.handler), []).append(finding)
+    return holders
+
+
+def groups_of(findings: list[Finding]) -> list[Group]:
+    """The groups, each where its first finding stands. The order that most findings have makes the first group, and so on with
+    those that are left."""
+    holders, groups, left = holders_of(findings), [], {finding.number for finding in findings}
+    for key in sorted(holders, key=lambda key: -len(holders[key])):
+        members = [finding for finding in holders[key] if finding.number in left]
+        if len(members) > 1:
+            groups.append(Group(members, " ".join(key[0])))
+            left -= {finding.number for finding in members}
+    groups += [Group([finding]) for finding in findings if finding.number in left]
+    place = {finding.number: number for number, finding in enumerate(findings)}
+    return sorted(groups, key=lambda group: place[group.findings[0].number])

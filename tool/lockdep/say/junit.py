@@ -1,0 +1,63 @@
+"""The findings as JUnit: one suite, with a failed case for each finding."""
+from __future__ import annotations
+
+import time
+
+from ..ask.blocked import Blocked
+from ..ask.breaches import Breach
+from ..base.words import escaped
+from ..binaries.symbols import place_words
+from ..program.findings import Finding
+from .found import Found, moment
+from .steps import Step, sentence, steps_of, task_name, words_of_step
+
+
+def step_words(finding: Finding, step: Step) -> str:
+    return "%s: %s (%s: record %d)" % (task_name(finding, step.task + 1), words_of_step(step), step.event.file, step.event.record)
+
+
+def step_line(finding: Finding, step: Step, found: Found) -> str:
+    if not step.event:
+        return "  %s: %s" % (task_name(finding, step.task + 1), words_of_step(step))
+    place = place_words(found.sources.frames(step.event))
+    return "  %s%s" % (step_words(finding, step), ", " + place if place else "")
+
+
+def failed_case(kind: str, name: str, message: str, lines: list[str]) -> str:
+    return """<testcase classname="lockdep.%s" name="%s" time="0">
+<failure type="%s" message="%s">%s</failure>
+</testcase>
+""" % (escaped(kind), escaped(name), escaped(kind), escaped(message), "".join(escaped(line) + "\n" for line in lines))
+
+
+def finding_case(finding: Finding, found: Found) -> str:
+    """A failed case: the sentence, and each step with its place."""
+    lines = [sentence(finding)] + [step_line(finding, step, found) for step in steps_of(finding)] + found.remarks(finding)
+    lines += finding.happened.lines() if finding.happened else []
+    return failed_case(finding.rule, finding.head, sentence(finding), lines)
+
+
+def blocked_case(thread: Blocked | Breach, found: Found) -> str:
+    lines = [thread.sentence] + ["  %s, %s" % (words, place_words(found.sources.frames(event))) for words, event in thread.lines()]
+    return failed_case(thread.type, thread.name, thread.sentence, lines)
+
+
+def junit(found: Found) -> str:
+    """The suite. If nothing new was found it has a passed case; if the recording left something out there is a case with an
+    error, and none is passed."""
+    cases = [finding_case(finding, found) for finding in found.findings] + [blocked_case(thread, found) for thread in
+                                                                            found.blocked + found.breaches]
+    failures = len(cases)
+    if found.left_out:
+        said = escaped("Not all was checked. Left out: %s." % found.left_out)
+        cases.append('<testcase classname="lockdep" name="left out" time="0">\n<error type="left out" message="%s"/>\n'
+                     "</testcase>\n" % said)
+    elif not cases:
+        cases.append('<testcase classname="lockdep" name="%s" time="0"/>\n' % ("no new finding" if found.has_known else "no finding"))
+    counts = 'tests="%d" failures="%d" errors="%d" skipped="0" time="0"' % (len(cases), failures, 1 if found.left_out else 0)
+    return """<?xml version="1.0" encoding="UTF-8"?>
+<testsuites name="lockdep" %s>
+<testsuite name="lockdep" %s timestamp="%s">
+%s</testsuite>
+</testsuites>
+""" % (counts, counts, time.strftime("%Y-%m-%dT%H:%M:%S", moment()), "".join(cases))

@@ -1,0 +1,175 @@
+"""A finding on the page: the tasks side by side, each record with its source, and where the locks are made."""
+from __future__ import annotations
+
+import os
+from dataclasses import replace
+from typing import Callable
+
+from ..ask.blocked import Blocked
+from ..ask.breaches import Breach
+from ..base.words import as_sentence, escaped, name_in
+from ..binaries.cplusplus import without_parameters
+from ..binaries.symbols import Frame, place_words
+from ..places.sources import Sources, has_changed
+from ..program.findings import Event, Finding
+from ..record.handlers import words_of_handler
+from ..record.threads import called
+from .explanation import inner_lines
+from .found import Found
+from .steps import Step, events_of, sentence, steps_of, task_count, task_name, words_of_step
+
+REM_OF_TASK = 12  # how wide a task's column is, at least
+
+
+def key_html(sources: Sources) -> Callable[[str], str]:
+    """How a key is written on the page: readable, and as a tooltip in the form that the traces have."""
+    def shown(key: str) -> str:
+        name = sources.shown_key(key)
+        title = ' title="%s"' % escaped(key) if name != key else ""
+        return "<code%s>%s</code>" % (title, escaped(name))
+    return shown
+
+
+def bare(frame: Frame) -> Frame:
+    """A frame without its function's parameters."""
+    return replace(frame, function=without_parameters(frame.function))
+
+
+def step_html(finding: Finding, step: Step, events: list[Event], sources: Sources) -> str:
+    """What a task does at one point, with a link to the record."""
+    said = '<span class="%s">%s</span>' % (step.verb, words_of_step(step, key_html(sources)))
+    if step.event:
+        place = place_words([bare(frame) for frame in sources.frames(step.event)[:1]])
+        place = place or "%s: record %d" % (os.path.basename(step.event.file), step.event.record)
+        said += '<br><a href="#record-%d-%d">%s</a>' % (finding.number, events.index(step.event) + 1, escaped(place))
+    return said
+
+
+def task_title(finding: Finding, task: int, sources: Sources) -> str:
+    """What stands above a task's column. With a signal the last one is its handler, and the first one the code that this interrupts."""
+    name = task_name(finding, task + 1)
+    if not finding.handler:
+        return name.capitalize()
+    if name == "the handler":
+        return words_of_handler(finding.handler, sources.symbols)
+    return "Thread 1, which %s interrupts" % finding.state if task == 0 else name.capitalize()
+
+
+def task_head(finding: Finding, steps: list[Step], task: int, sources: Sources) -> str:
+    """The head of a task's column, with its trace if it is only one."""
+    files, title = {step.event.file for step in steps if step.task == task and step.event}, escaped(task_title(finding, task, sources))
+    if len(files) != 1:
+        return '<th scope="col">%s</th>' % title
+    trace = files.pop()
+    name = os.path.join(*trace.split("/")[-3:]) if finding.handler else os.path.basename(trace)  # (below `signals`, a set has traces of its own)
+    return '<th scope="col">%s<br><small>%s</small></th>' % (title, escaped(called(name, trace)))
+
+
+def task_rows(finding: Finding, steps: list[Step], sources: Sources) -> str:
+    rows, events, tasks = "", events_of(steps), task_count(steps)
+    titles = [escaped(task_title(finding, task, sources)) for task in range(tasks)]
+    for number, step in enumerate(steps, 1):
+        said = step_html(finding, step, events, sources)
+        cells = "".join('<td data-task="%s">%s</td>' % (titles[task], said if task == step.task else "") for task in range(tasks))
+        rows += '<tr><td class="time">%d</td>%s</tr>\n' % (number, cells)
+    return rows
+
+
+def task_table(finding: Finding, steps: list[Step], sources: Sources) -> str:
+    """The tasks side by side: a column for each, with time running downwards."""
+    tasks = task_count(steps)
+    heads = "".join(task_head(finding, steps, task, sources) for task in range(tasks))
+    return """<div class="scroll" tabindex="0" role="region" aria-label="What the tasks of finding %d do">
+<table class="tasks" style="min-width: %drem">
+<thead><tr><th class="time" scope="col" aria-label="Time">↓</th>%s</tr></thead>
+<tbody>
+%s<tr><td class="time"></td><td class="end" colspan="%d">Deadlock</td></tr>
+</tbody>
+</table>
+</div>
+""" % (finding.number, REM_OF_TASK * tasks, heads, task_rows(finding, steps, sources), tasks)
+
+
+def excerpt_html(frame: Frame, event: Event, sources: Sources) -> str:
+    """The source around a record's line."""
+    lines = sources.excerpt(frame)
+    if not lines:
+        return ""
+    width = len(str(lines[-1][0]))
+    rows = ""
+    for number, line in lines:
+        line = "\t".join(escaped(part) for part in line.rstrip("\r").split("\t"))
+        row = '<span class="number">%*d</span>  %s' % (width, number, line)
+        rows += "<mark>%s</mark>\n" % row if number == frame.line else row + "\n"
+    changed = ", which has changed since the recording: these may be other lines" if has_changed(frame.path, event.file) else ""
+    return """<details open><summary class="soft">%s%s</summary><pre tabindex="0"><code>%s</code></pre></details>
+""" % (escaped(frame.path), changed, rows)
+
+
+def record_html(name: str, event: Event, sources: Sources) -> str:
+    """A record: its text in the trace, where it comes from, and the source around that."""
+    said = '<div class="record" id="%s">\n<p>' % name
+    said += "<code>%s</code>: record %d" % (escaped(event.file), event.record)
+    if event in sources.records:
+        said += ", line %d: <code>%s</code>" % (sources.records[event][0], escaped(sources.records[event][1]))
+    return said + "</p>\n" + place_html(event, sources) + "</div>\n"
+
+
+def place_html(event: Event, sources: Sources) -> str:
+    """Where a record comes from, and the source around that."""
+    frames, source = sources.frames(event), sources.line_of(event)
+    said = "<p>%s</p>\n" % escaped(place_words(frames)) if frames else ""
+    return said + (excerpt_html(source, event, sources) if source else "")
+
+
+def lock_lines(finding: Finding, steps: list[Step], sources: Sources) -> str:
+    """Where the locks are made, as far as that is known."""
+    keys = dict.fromkeys(step.key for step in steps if step.key)
+    made = [(key, sources.made_words(made)) for key in keys for made in sources.made_as(name_in(key))]
+    lines = "".join("<li>%s: %s</li>\n" % (key_html(sources)(key), escaped(words)) for key, words in made if words)
+    return '<h3>Where the locks are made</h3>\n<ul class="list">\n%s</ul>\n' % lines if lines else ""
+
+
+def inner_html(finding: Finding, sources: Sources) -> str:
+    """The records of the finding between single locks that aren't among those above."""
+    lines = "".join(escaped(line.text.strip()) + "\n" for line in inner_lines(finding, sources))
+    return '<h3>Between single locks</h3>\n<pre tabindex="0"><code>%s</code></pre>\n' % lines if lines else ""
+
+
+def stood_html(finding: Finding) -> str:
+    """Where the threads stood still, if the finding happened."""
+    lines = "".join(escaped(line) + "\n" for line in finding.happened.lines()) if finding.happened else ""
+    return '<h3>Where its threads stood still</h3>\n<pre tabindex="0"><code>%s</code></pre>\n' % lines if lines else ""
+
+
+def finding_html(finding: Finding, found: Found, group: str = "") -> str:
+    number, sources, steps = finding.number, found.sources, steps_of(finding)
+    said = '<article id="finding-%d" aria-labelledby="head-%d">\n' % (number, number)
+    said += '<h2 id="head-%d">%d. <code>%s</code></h2>\n' % (number, number, escaped(finding.head))
+    said += "<p>%s</p>\n" % sentence(finding, key_html(sources))
+    said += "".join('<p class="note">%s</p>\n' % escaped(as_sentence(remark)) for remark in found.remarks(finding)) + group
+    said += stood_html(finding) + (task_table(finding, steps, sources) + "<h3>The records</h3>\n" if steps else "")
+    for place, event in enumerate(events_of(steps), 1):
+        said += record_html("record-%d-%d" % (number, place), event, sources)
+    said += inner_html(finding, sources) + lock_lines(finding, steps, sources)
+    lines = "".join(escaped(line) + "\n" for line in finding.lines)
+    said += '<details><summary class="soft">Its lines in the report, as a list of known findings has them</summary>'
+    return said + '<pre tabindex="0"><code>%s</code></pre></details>\n</article>\n' % lines
+
+
+def breach_html(number: int, breach: Breach, sources: Sources) -> str:
+    """What was done against what the program says of its locks, and where."""
+    said = '<article id="breach-%d" aria-label="Breach %d">\n<p>%s</p>\n' % (
+        number, number, escaped(as_sentence(sources.demangler.text(breach.sentence))))
+    for words, event in breach.lines():
+        said += '<h3>%s</h3>\n<div class="record">\n%s</div>\n' % (words.capitalize(), place_html(event, sources))
+    return said + "</article>\n"
+
+
+def blocked_html(number: int, thread: Blocked, sources: Sources) -> str:
+    """A thread that was blocked at the end, with the records that it, and who holds the lock, came to."""
+    said = '<article id="blocked-%d" aria-label="Blocked thread %d">\n<p>%s</p>\n' % (
+        number, number, escaped(as_sentence(sources.demangler.text(thread.sentence))))
+    for place, event in enumerate(thread.events, 1):
+        said += record_html("blocked-%d-%d" % (number, place), event, sources)
+    return said + "</article>\n"
