@@ -24,6 +24,15 @@ make_room() {
     trap 'rm -rf "$room"' EXIT
 }
 
+# Unpacks a .tar.xz into a folder, by xz, or by Python where that isn't there; false if neither is: unpack ARCHIVE FOLDER.
+unpack() {
+    if command -v xz >/dev/null; then
+        xz -dc "$1" | tar -xf - -C "$2"
+    else
+        python3 -c 'import sys, tarfile; tarfile.open(sys.argv[1]).extractall(sys.argv[2])' "$1" "$2" 2>/dev/null
+    fi
+}
+
 # A test has passed: pass [NAME].
 pass() {
     passed=$((passed + 1))
@@ -134,6 +143,13 @@ traces_of() {
     else
         find "$1" -maxdepth 1 -name '*.txt' ! -name report.txt ! -name explain.txt ! -name locks.txt ! -name fault.txt ! -name chains.txt ! -name condensed.txt | sort
     fi
+}
+
+# The place of a text in a source, `NAME:LINE`, or of the nth such text, so that an edit of a test's program moves no expected value. The source is in
+# the folder $sources, or in the current one: place NAME TEXT [NTH].
+place() {
+    line_of_text=$(grep -nF -- "$2" "${sources:-.}/$1" | sed -n "${3:-1}s/:.*//p")
+    echo "$1:${line_of_text:-nowhere}"
 }
 
 # Lines in one line.

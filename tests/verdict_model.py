@@ -19,6 +19,8 @@ from typing import Any, Callable, Dict, FrozenSet, Iterator, List, NamedTuple, O
 STATES = ("hardirq", "softirq")
 KINDS = ("ER", "EN", "SR", "SN")
 VERDICTS = ("locks", "perhaps", "unknown", "classes", "types", "nested")
+MOST_TRACES = 16  # of an order that are listed
+BETWEEN_LISTS = '\n],"ends":['
 MOST_TOGETHER = 256
 MOST_KEYS = 8192
 
@@ -149,7 +151,17 @@ def enabled_in(frame: Frame) -> Tuple[str, ...]:
 
 
 def moments_of(records: Sequence[Record]) -> List[Moment]:
-    """The moments of a trace. A release gives back the newest lock of exactly its key, and so the very lock that it names."""
+    return walked(records)[0]
+
+
+def kept_after(records: Sequence[Record]) -> List[Lock]:
+    """What a task holds after its trace, in all its frames, oldest first."""
+    return [lock for frame in walked(records)[1] for lock in frame.held]
+
+
+def walked(records: Sequence[Record]) -> Tuple[List[Moment], List[Frame]]:
+    """The moments of a trace, and the frames that are open at its end. A release gives back the newest lock of exactly its key, and so
+    the very lock that it names."""
     frames = [Frame("task")]
     moments = []
     for number, record in enumerate(records[1:], 2):
@@ -168,7 +180,7 @@ def moments_of(records: Sequence[Record]) -> List[Moment]:
             frame.flags[record[1]] = word == "on"
             if word == "on":
                 moments.append(Moment(number, frame.kind, enabled_in(frame), tuple(frame.held), None, record[1]))
-    return moments
+    return moments, frames
 
 
 def release(frame: Frame, key: Key) -> None:
@@ -416,11 +428,12 @@ def findings_of(level: Level, rng: Optional[random.Random] = None) -> List[Findi
 
 class Levels(NamedTuple):
     """The facts between single locks without the names that stand for several, all those between single locks, those between
-    classes, and those between types."""
+    classes, and those between types; and what each trace holds at its end."""
     locks: Level
     perhaps: Level
     classes: Level
     types: Level
+    ends: List[List[Lock]]
 
 
 def levels_of(traces: Sequence[Sequence[Record]]) -> Levels:
@@ -429,7 +442,8 @@ def levels_of(traces: Sequence[Sequence[Record]]) -> Levels:
         locks=Level(facts, lambda name: name, type_of, is_rest),
         perhaps=Level(facts, lambda name: name, type_of),
         classes=Level(facts, class_of, type_of_class),
-        types=Level(facts, type_of, lambda name: name))
+        types=Level(facts, type_of, lambda name: name),
+        ends=[kept_after(records) for records in traces])
 
 
 def witnesses(level: Level, finding: Finding, rng: Optional[random.Random] = None) -> List[Finding]:
@@ -515,6 +529,32 @@ def object_of_dependency(dependency: Dependency) -> Object:
     return {"from": dependency.start.text(), "kind": dependency.kind, "to": dependency.end.text()}
 
 
+def traces_of(level: Level, files: Sequence[str], fact: Fact) -> Object:
+    """How many traces have a fact, and the first of them, each with its first occurrence."""
+    firsts: Dict[int, Occurrence] = {}
+    for occurrence in level.occurrences[fact]:
+        firsts.setdefault(occurrence.trace, occurrence)
+    return {"count": len(firsts), "first": [{"file": files[trace], "record": first.moment.record, **since(first)}
+                                            for trace, first in sorted(firsts.items())[:MOST_TRACES]]}
+
+
+def since(occurrence: Occurrence) -> Object:
+    return {} if occurrence.held is None else {"since": occurrence.held.record}
+
+
+def object_of_order(level: Level, files: Sequence[str], dependency: Dependency) -> Object:
+    return {**object_of_dependency(dependency), **object_of_fact(level, files, dependency), "traces": traces_of(level, files, dependency)}
+
+
+def object_of_end(file: str, kept: Sequence[Lock]) -> Object:
+    return {"file": file, "holds": [{"key": lock.key.text(), "mode": lock.mode, "record": lock.record} for lock in kept]}
+
+
+def ends_of(levels: Levels, files: Sequence[str]) -> List[Object]:
+    """What the traces hold at their end that hold something there."""
+    return [object_of_end(file, kept) for file, kept in zip(files, levels.ends) if kept]
+
+
 def text_of_gate(gate: Gate) -> str:
     return "always inside %s: %s" % (gate.key.text(), ", ".join(dependency.text() for dependency in gate.guarded))
 
@@ -557,8 +597,7 @@ def object_of(level: Level, files: Sequence[str], finding: Finding) -> Object:
         said["keys"] = [key.text() for key in finding.keys]
     said["lines"] = lines_of(finding)
     if finding.type != "double":
-        said["orders"] = [dict(object_of_dependency(dependency), **object_of_fact(level, files, dependency))
-                          for dependency in finding.walk]
+        said["orders"] = [object_of_order(level, files, dependency) for dependency in finding.walk]
     if finding.type != "circle":
         said["used"], said["enabled"] = (object_of_fact(level, files, mark) for mark in marks_of(finding))
     if finding.type != "double":
@@ -572,17 +611,21 @@ def json_of(value: Any) -> str:
 
 def head_of(verdicts: Sequence[str]) -> str:
     counts = {verdict: sum(1 for other in verdicts if other == verdict) for verdict in VERDICTS}
-    return '{"lockdep":2,"counts":%s,"findings":[' % json_of(counts)
+    return '{"lockdep":3,"counts":%s,"findings":[' % json_of(counts)
 
 
-def text_of(head: str, objects: Sequence[Object]) -> str:
-    """An output: one line for each finding, between the first and the last."""
-    return "\n".join([head, *([",\n".join(map(json_of, objects))] if objects else []), "]}"]) + "\n"
+def text_of(head: str, *lists: Sequence[Object]) -> str:
+    """An output: one line for each finding, between the first and the last, and then in the same way for each end, if it has ends."""
+    texts = ["".join(["\n", ",\n".join(map(json_of, objects))]) if objects else "" for objects in lists]
+    return head + BETWEEN_LISTS.join(texts) + "\n]}\n"
 
 
-def with_plain_notes(said: Object) -> Object:
-    """A finding as version 1 of the format has it, with notes in words alone."""
-    return {name: value for name, value in said.items() if name not in ("gates", "only")}
+def plainly(said: Object) -> Object:
+    """A finding as version 1 of the format has it, with notes in words alone, and orders without their traces."""
+    plain = {name: value for name, value in said.items() if name not in ("gates", "only")}
+    if "orders" in plain:
+        plain["orders"] = [{name: value for name, value in order.items() if name != "traces"} for order in plain["orders"]]
+    return plain
 
 
 # ---- A right output.
@@ -611,12 +654,12 @@ def answer(levels: Levels, files: Sequence[str], rng: Optional[random.Random] = 
         said.append(dict(object_of(levels.types, files, finding), between=between))
     said.sort(key=lambda one: rank(one["between"]["kind"]))
     verdicts = [one["between"]["kind"] for one in said]
-    return Answer(text_of(head_of(verdicts), said), status_of(verdicts), status_confirmed(verdicts))
+    return Answer(text_of(head_of(verdicts), said, ends_of(levels, files)), status_of(verdicts), status_confirmed(verdicts))
 
 
 def answer_plain(level: Level, files: Sequence[str]) -> Answer:
     """A right output of `explain --json`, by the names of a level."""
-    said = [with_plain_notes(object_of(level, files, finding)) for finding in findings_of(level)]
+    said = [plainly(object_of(level, files, finding)) for finding in findings_of(level)]
     return Answer(text_of('{"lockdep":1,"findings":[', said), int(said != []), int(said != []))
 
 
@@ -662,19 +705,27 @@ def read_line(line: str, has_verdict: bool) -> Told:
     return Told(line, said, read_finding(said), between["kind"], nested)
 
 
-def read_output(text: str, has_verdict: bool) -> Tuple[str, List[Told]]:
-    """The first line of an output, and its findings. What has another shape is malformed."""
+def items_of(lines: Sequence[str]) -> List[str]:
+    """The items of a list of which each has a line of its own."""
+    for line in lines[:-1]:
+        if not line.endswith(","):
+            raise Malformed("no comma after %s" % line)
+    return [line[:-1] for line in lines[:-1]] + list(lines[-1:])
+
+
+def read_output(text: str, has_verdict: bool) -> Tuple[str, List[Told], List[str]]:
+    """The first line of an output, its findings, and the lines of its ends, if it has any. What has another shape is malformed."""
     head, *lines = text.split("\n")
     if lines[-2:] != ["]}", ""]:
         raise Malformed("the end is %r" % text[-20:])
     lines = lines[:-2]
-    for line in lines[:-1]:
-        if not line.endswith(","):
-            raise Malformed("no comma after %s" % line)
-    lines = [line[:-1] for line in lines[:-1]] + lines[-1:]
+    between = BETWEEN_LISTS.strip("\n")
+    if has_verdict and lines.count(between) != 1:
+        raise Malformed("no list of ends, or several")
+    place = lines.index(between) if has_verdict else len(lines)
     try:
         json.loads(text)
-        return head, [read_line(line, has_verdict) for line in lines]
+        return head, [read_line(line, has_verdict) for line in items_of(lines[:place])], items_of(lines[place + 1:])
     except (AttributeError, IndexError, KeyError, TypeError, ValueError) as fault:
         raise Malformed("%s: %s" % (type(fault).__name__, fault)) from fault
 
@@ -805,7 +856,7 @@ def faults_of_list(level: Level, findings: Sequence[Finding]) -> List[str]:
 def judge(levels: Levels, files: Sequence[str], output: Answer) -> List[str]:
     """What is wrong with an output of `explain --locks --json`, and with its statuses, without and with `--confirmed-only`."""
     try:
-        head, told = read_output(output.text, True)
+        head, told, ends = read_output(output.text, True)
     except Malformed as fault:
         return ["malformed: %s" % fault]
     faults = ["finding %d: %s" % (number, fault) for number, one in enumerate(told, 1) for fault in faults_of_told(levels, files, one)]
@@ -817,6 +868,7 @@ def judge(levels: Levels, files: Sequence[str], output: Answer) -> List[str]:
         faults.append("the order of findings")
     verdicts = [one.verdict for one in told]
     faults += ["the first line: " + fault for fault in compare(head_of(verdicts), head)]
+    faults += ["the ends: " + fault for fault in compare("\n".join(map(json_of, ends_of(levels, files))), "\n".join(ends))]
     for what, wanted, found in (("the status", status_of(verdicts), output.status),
                                 ("the status of --confirmed-only", status_confirmed(verdicts), output.status_confirmed)):
         if wanted != found:
@@ -827,7 +879,7 @@ def judge(levels: Levels, files: Sequence[str], output: Answer) -> List[str]:
 def judge_plain(level: Level, files: Sequence[str], text: str, status: int) -> List[str]:
     """What is wrong with an output of `explain --json`, by the names of a level."""
     try:
-        head, told = read_output(text, False)
+        head, told, _ = read_output(text, False)
     except Malformed as fault:
         return ["malformed: %s" % fault]
     faults = compare('{"lockdep":1,"findings":[', head)
@@ -836,7 +888,7 @@ def judge_plain(level: Level, files: Sequence[str], text: str, status: int) -> L
     if faults:
         return faults
     for one in told:
-        faults += compare(json_of(with_plain_notes(object_of_choice(level, files, one.finding, one.said))), one.line)
+        faults += compare(json_of(plainly(object_of_choice(level, files, one.finding, one.said))), one.line)
     findings = [one.finding for one in told]
     if findings != sorted(findings, key=in_explain):
         faults.append("the order of findings")

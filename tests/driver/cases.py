@@ -4,11 +4,16 @@ import os
 import tempfile
 import unittest
 
-from lockdep.findings import findings_of
+from lockdep.program.findings import findings_of
 
 
 def order(start, kind, end, file="t/objects/task-0001.csv", record=3, since=2):
     return {"from": start, "kind": kind, "to": end, "file": file, "record": record, "takes": "w", "held": "w", "since": since}
+
+
+def sightings(traces, count):
+    """That so many traces have an order, of which these are the first."""
+    return {"count": count, "first": [{"file": trace, "record": 3, "since": 2} for trace in traces]}
 
 
 def circle(*keys, **more):

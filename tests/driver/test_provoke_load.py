@@ -9,8 +9,8 @@ import tempfile
 import unittest
 from unittest import mock
 
-from lockdep import provoke_load, provoke_recorded
-from lockdep.provoke_holders import Preloaded
+from lockdep.provoke import load as provoke_load, recorded as provoke_recorded
+from lockdep.provoke.holders import Preloaded
 
 DEAF = "import os, signal, sys, time; signal.signal(signal.SIGTERM, signal.SIG_IGN); open(os.path.join(sys.argv[1], '%d-0.arena' % os.getpid()), 'w'); time.sleep(99)"
 

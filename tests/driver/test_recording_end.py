@@ -5,7 +5,9 @@ import subprocess
 import tempfile
 import unittest
 
-from lockdep import recording, saying
+from lockdep.base import saying
+from lockdep.record import recorders, recording
+from lockdep.say import recorded
 
 TOP = os.path.realpath(os.path.join(os.path.dirname(os.path.realpath(__file__)), "..", ".."))
 BUILT = os.path.join(TOP, "recorders", "pthread", "out")
@@ -27,14 +29,14 @@ class Ends(unittest.TestCase):
         child = os.fork()
         if child == 0:
             try:
-                recording.begin(TOP, recording.Wishes(self.path, recording.RECORDERS["pthread"], False), command, os.path.join(self.room, "then"))
+                recording.begin(TOP, recording.RecordOptions(self.path, recorders.RECORDERS["pthread"], False), command, os.path.join(self.room, "then"))
             finally:
                 os._exit(99)
         os.waitpid(child, 0)
 
     def test_a_program_without_locks(self):
         self.begin(["true"])
-        ended = recording.end_quietly(TOP, self.path, 7, False)
+        ended = recorded.end_quietly(TOP, self.path, 7, False)
         self.assertEqual((ended.status, ended.messages[0]), (2, "record: 1 process, 0 threads, 0 operations, 0 classes"))
         self.assertEqual(ended.summary.reasons(), ["no-pthread-import"])
         self.assertIsNone(saying.kept)
@@ -46,21 +48,21 @@ class Ends(unittest.TestCase):
         if subprocess.run(["cc", "-o", program, source, "-pthread"], check=False).returncode:
             self.skipTest("there is no C compiler")
         self.begin([program])
-        ended = recording.end_quietly(TOP, self.path, 0, True)
+        ended = recorded.end_quietly(TOP, self.path, 0, True)
         self.assertEqual((ended.status, ended.messages[-1]), (0, "record: 1 process, 2 threads, 8 operations, 2 classes"))
         self.assertEqual(ended.summary.left_out(), [])
         self.assertTrue(os.path.exists(os.path.join(self.path, "raw")))
 
     def test_a_recording_that_is_gone(self):
         os.mkdir(self.path)
-        ended = recording.end_quietly(TOP, self.path, 0, False)
+        ended = recorded.end_quietly(TOP, self.path, 0, False)
         self.assertEqual((ended.status, ended.summary), (2, None))
         self.assertIn("the recording is gone", ended.messages[0])
 
     def test_traces_that_cannot_be_made(self):
         self.begin(["true"])
         os.mkdir(os.path.join(self.path, "SUMMARY"))
-        ended = recording.end_quietly(TOP, self.path, 0, False)
+        ended = recorded.end_quietly(TOP, self.path, 0, False)
         self.assertEqual((ended.status, ended.summary), (2, None))
         self.assertIn("the traces can't be made; %s/raw has the recording" % self.path, ended.messages[-1])
 

@@ -4,19 +4,20 @@ import shutil
 import tempfile
 import unittest
 
-from lockdep.folder import FIRST_LINE, Folder, checked, is_made
-from lockdep.saying import Refusal, typed
+from lockdep.base.saying import Refusal, typed
+from lockdep.record.folder import FIRST_LINE, Folder, checked, is_made
 
 
 class Names(unittest.TestCase):
     def test_names_that_a_recording_makes(self):
         for name in ("classes", "SUMMARY", "summary.json", "raw.tar.gz", "objects", "task-0001.csv", "objects/task-12345.csv.places",
                      "signals", "signals/sources.json", "signals/never.json", "signals/threads", "signals/12", "signals/12/task-0001.csv", "signals/1/task-0001.csv.places",
-                     "signals/1/weak"):
+                     "signals/1/weak", "history", "history/process-0001.csv", "history/process-12345.csv.places", "history/process-0001.left-out"):
             self.assertTrue(is_made(name), name)
         for name in ("raw", "task-.csv", "task-1.txt", "task-1x.csv", "task-0001.csv.places.places", "objects/classes", "notes", "task-notes.csv",
                      "task-\u0661.csv", "signals/notes", "signals/x/task-0001.csv", "signals/1/notes", "signals/task-0001.csv", "signals/1/2",
-                     "x/signals/1/task-0001.csv"):
+                     "x/signals/1/task-0001.csv", "process-0001.csv", "history/task-0001.csv", "history/process-x.csv", "history/process-0001",
+                     "history/process-0001.notes", "history/x/process-0001.csv"):
             self.assertFalse(is_made(name), name)
 
     def test_a_path_that_looks_like_an_option(self):
@@ -86,6 +87,16 @@ class Preparing(unittest.TestCase):
         self.write("RECORDED", "".join(line + "\n" for line in [FIRST_LINE] + folder.names()))
         self.prepared()
         self.assertEqual([names for _, _, names in os.walk(os.path.join(self.path, "signals"))], [[], ["notes"]])
+
+    def test_histories_are_listed_and_replaced(self):
+        made = ("history", "history/process-0001.csv", "history/process-0001.csv.places", "history/process-0001.left-out")
+        for name in made[1:] + ("history/notes",):
+            self.write(name)
+        folder = Folder(self.path)
+        self.assertEqual(folder.names(), sorted(made))
+        self.write("RECORDED", "".join(line + "\n" for line in [FIRST_LINE] + folder.names()))
+        self.prepared()
+        self.assertEqual(os.listdir(os.path.join(self.path, "history")), ["notes"])
 
     def test_a_recording_whose_traces_were_not_made_stays(self):
         for mark in ("settings", "python", "java"):

@@ -5,8 +5,10 @@ import shutil
 import tempfile
 import unittest
 
-from lockdep import losses, saying, seen, summary
-from lockdep.advice import ADVICE
+from lockdep.base import saying
+from lockdep.record import losses, summary
+from lockdep.say import seen
+from lockdep.say.advice import ADVICE
 
 TOP = os.path.join(os.path.dirname(os.path.realpath(__file__)), "..", "..")
 
@@ -16,24 +18,22 @@ def text_of(path):
         return file.read()
 
 
-def joined(text):
-    """A text with its literals in several parts put together."""
-    text = re.sub(r'"\s*\\?\n\s*"', "", text)
-    return text.replace("\\047", "'").replace('" \\\n            " ', "")
-
-
 class Sentences(unittest.TestCase):
     def sentences(self, code):
         return losses.COUNTS.get(code, ()) + losses.NOTES.get(code, ())
 
     def test_each_count_of_the_recorder_of_pthreads_is_in_the_table(self):
-        told = re.findall(r'tell_loss\(\s*file, "([a-z-]+)", [^"]*?"([^"]*)"\)', joined(text_of("recorders/pthread/finish/finish.c")))
-        self.assertGreater(len(told), 15)
-        for code, words in told:
-            self.assertIn(words, self.sentences(code), code)
+        codes = []
+        for name in ("summary.c", "sets.c"):
+            codes += re.findall(r'\bwrite_(?:count|loss|loss_with)\(file, "([a-z-]+)", ', text_of("recorders/pthread/finish/" + name))
+        self.assertGreater(len(codes), 30)
+        without_words = losses.RECORDED + summary.NOTED + ("at-exit",)
+        for code in codes:
+            self.assertEqual(len(self.sentences(code)) > 0, code not in without_words, code)
+            self.assertEqual(losses.words_of_loss(code, "pthread"), summary.known_words(code), code)
 
     def test_each_count_of_a_finish_in_python_is_in_the_table(self):
-        from lockdep import finish_embed, finishing
+        from lockdep.finish import finish_embed, finishing
         for code in finishing.LOSSES + finish_embed.LOSSES + ("unreached-runs", "pthread-runs", "other-runs", "library-only"):
             self.assertTrue(self.sentences(code) or code in summary.NOTED, code)
 
@@ -52,7 +52,7 @@ class Sentences(unittest.TestCase):
                 ("embed", "threads-alike", "tasks whose traces are the same as 32 others, and were left out: nothing is lost by these"),
                 ("rust", "beyond-held", "acquisitions with 48 locks held already: an order among them may be missing"),
                 ("rust", "waiting", None)):
-            self.assertEqual(losses.words_of(code, recorder), words, (recorder, code))
+            self.assertEqual(losses.words_of_loss(code, recorder), words, (recorder, code))
 
     def test_each_reason_of_a_program_is_in_the_table(self):
         words = re.findall(r'say(?:_of)?\([^;]*?, "([a-z-]+)"(?:, name)?\);', text_of("recorders/pthread/look.c"))
@@ -63,7 +63,9 @@ class Sentences(unittest.TestCase):
         self.assertGreater(len(runtimes), 7)
         for word in runtimes:
             self.assertIn(word, losses.REASONS)
-        for word in re.findall(r'\{"([a-z-]+)", (?:process_count|is_)', text_of("recorders/pthread/finish/finish.c")):
+        unseen = re.findall(r'\{"([a-z-]+)", (?:process_count|is_)', text_of("recorders/pthread/finish/summary.c"))
+        self.assertGreater(len(unseen), 5)
+        for word in unseen:
             self.assertIn(word, losses.REASONS)
         for recorder in ("python", "java", "rust", "embed"):
             self.assertLessEqual({recorder + "-nothing", recorder + "-off"}, set(losses.REASONS))
@@ -125,8 +127,8 @@ class LeftOut(unittest.TestCase):
         for recorder, has_frames in ("pthread", True), ("java", False), ("python", False), ("go", False), ("rust", False), ("embed", False):
             self.assertEqual("--frames" in self.advice("beyond-classes", recorder), has_frames, recorder)
             self.assertEqual("signal handler" in self.advice("interrupted", recorder), recorder != "java", recorder)
-        self.assertNotIn("signal handler", losses.words_of("interrupted", "java"))
-        self.assertIn("signal handler", losses.words_of("interrupted", "python"))
+        self.assertNotIn("signal handler", losses.words_of_loss("interrupted", "java"))
+        self.assertIn("signal handler", losses.words_of_loss("interrupted", "python"))
 
     def test_each_count_that_is_accepted_is_judged(self):
         for code in self.acceptable:

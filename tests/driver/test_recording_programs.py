@@ -1,11 +1,11 @@
 """Programs with other locks than those of pthreads, by what `look` says of their files."""
 import unittest
 
-from lockdep import programs
-from lockdep.programs import other_programs
-from lockdep.rust_locks import OF_LIBRARY, Kind, calls_of_aarch64, calls_of_x86_64, crate_of, kind_of
-from lockdep.summary import Summary
-from lockdep.symbols import Frame
+from lockdep.binaries.symbols import Frame
+from lockdep.finish import programs
+from lockdep.finish.programs import other_programs
+from lockdep.record.rust_locks import OF_LIBRARY, Kind, calls_of_aarch64, calls_of_x86_64, crate_of, kind_of
+from lockdep.record.summary import Summary
 
 
 class Looked(programs.Programs):

@@ -5,8 +5,8 @@ import shutil
 import tempfile
 import unittest
 
-from lockdep import summary
-from lockdep.summary import Count, File, Summary
+from lockdep.record import summary
+from lockdep.record.summary import Count, File, Summary
 
 TEXT = """processes 2
 threads 5
@@ -34,7 +34,7 @@ class Texts(unittest.TestCase):
         self.summary = Summary(summary.parse(TEXT))
 
     def test_a_text_is_written_as_it_was_read(self):
-        self.assertEqual(summary.text_of(self.summary), TEXT)
+        self.assertEqual(summary.text_of_summary(self.summary), TEXT)
 
     def test_numbers(self):
         self.assertEqual([self.summary.number(code) for code in ("threads", "beyond-held", "nosuch")], [5, 12, 0])
@@ -66,7 +66,7 @@ class Texts(unittest.TestCase):
     def test_files_that_are_counted(self):
         self.summary.add("rust-programs", [File("/a/server", None, "rust-plain")])
         self.summary.add("sanitizer-programs", [])
-        lines = summary.text_of(self.summary).split("\n")
+        lines = summary.text_of_summary(self.summary).split("\n")
         self.assertEqual(lines[-4:-2], ["rust-programs 1", "  programs in Rust that ran without being recorded: none of the locks of Rust in them was seen"])
         self.assertTrue(lines[-2].startswith("    /a/server: it isn't built to be recorded."))
 
@@ -77,8 +77,8 @@ class Json(unittest.TestCase):
         first.add("other-programs", [File("/\udcff\"\\\n\U0001f512", 2, "go")])
         text = summary.json_of(first, "pthread")
         again = Summary(summary.from_json(text))
-        self.assertEqual(summary.text_of(again).replace("unseen go\nunseen libjvm\n", "").split("\n"),
-                         summary.text_of(first).replace("unseen go libjvm\n", "").split("\n"))
+        self.assertEqual(summary.text_of_summary(again).replace("unseen go\nunseen libjvm\n", "").split("\n"),
+                         summary.text_of_summary(first).replace("unseen go libjvm\n", "").split("\n"))
         self.assertEqual(again.reasons(), first.reasons())
 
     def test_members(self):
@@ -86,6 +86,72 @@ class Json(unittest.TestCase):
                                                                                 "pthreads", [], [File("/x", None, "go")])]), "rust"))
         self.assertEqual(content, {"recording": 1, "recorder": "rust", "unseen": [], "counts": [
             {"code": "processes", "count": 1}, {"code": "other-programs", "count": 1, "files": [{"path": "/x", "why": "go"}]}]})
+
+
+class OfARecorder(unittest.TestCase):
+    """What the recorder of pthreads writes, which has codes and values alone."""
+
+    WRITTEN = """{"recording":1,"recorder":"pthread","counts":[
+{"code":"processes","count":1},
+{"code":"waiting","count":2,"ends":[["task-0001","a","b c"],["task-0003","m"]]},
+{"code":"at-exit","count":0},
+{"code":"held-at-end","count":1,"ends":[["task-0002","a","b"]]},
+{"code":"out-of-order","count":3,"breaches":[{"what":"p#1, index 2, was taken with p#2, index 5, held","at":"f","since":"g","times":1},{"what":"q","times":2}]},
+{"unseen":"static"},
+{"signal":"SIGUSR1","handler":"on_usr1","runs":2,"takes":1,"sent_to":"process"},
+{"code":"ignored-locks","count":4,"reasons":[[3,"it's \\"alone\\""],[1,"two\\twords"]]},
+{"code":"beyond-held","count":6,"dropped":[["m",3],["m+0x28",2]],"more":true},
+{"code":"threads-alike","count":40,"stand_ins":[["task-0002",40]]}
+],"unseen":[],"started":[{"path":"/bin/\udcff","times":2,"why":"alone"}],"loaded":["/lib/x 1.so"]}
+"""
+    TEXT = """processes 1
+waiting 2
+  task-0001 waits for b c, holding a
+  task-0003 waits for m
+at-exit 0
+held-at-end 1
+  task-0002 ended holding a, b
+out-of-order 3
+  p#1, index 2, was taken with p#2, index 5, held: at f, held since g, 1 time
+  q, 2 times
+unseen static
+signal SIGUSR1 on_usr1 runs 2 takes 1 sent-to process
+ignored-locks 4
+  acquisitions that a program said to ignore: no order that they are part of was recorded
+  3: it's "alone"
+  1: two\twords
+beyond-held 6
+  acquisitions with 48 locks held already: an order among them may be missing
+  dropped, as the oldest that was held: m (3), m+0x28 (2), ..
+threads-alike 40
+  threads whose traces are those of two others, and weren't written, since a run takes 4,096: nothing is lost by these
+    task-0002 stands for 40 of them
+"""
+
+    def setUp(self):
+        self.summary = Summary(summary.from_json(self.WRITTEN))
+
+    def test_its_text(self):
+        for word in (summary.STARTED, summary.LOADED):
+            self.summary.drop(word)
+        self.assertEqual(summary.text_of_summary(self.summary), self.TEXT)
+
+    def test_what_was_started_and_loaded(self):
+        self.assertEqual([(file.path, file.times, file.why) for file in self.summary.files_of(summary.STARTED)], [("/bin/\udcff", 2, "alone")])
+        self.assertEqual([file.path for file in self.summary.files_of(summary.LOADED)], ["/lib/x 1.so"])
+
+    def test_values(self):
+        for each in (self.summary, Summary(summary.from_json(summary.json_of(self.summary, "pthread"))), Summary(summary.parse(self.TEXT))):
+            self.assertEqual(each.waiting(), ["task-0001 waits for b c, holding a", "task-0003 waits for m"])
+            self.assertEqual(each.at_end(), {"task-0001": True, "task-0003": True, "task-0002": False})
+            self.assertEqual(each.stand_ins(), {"task-0002": 40})
+            self.assertEqual((each.reasons(), each.left_out()), (["static"], ["6 acquisitions with 48 locks held already"]))
+
+    def test_only_whoever_adds_to_it_reads_it(self):
+        with tempfile.TemporaryDirectory() as folder:
+            summary.put(os.path.join(folder, "summary.json"), self.WRITTEN)
+            self.assertIsNone(summary.read(folder))
+            self.assertEqual(summary.read(folder, is_first=True).number("beyond-held"), 6)
 
 
 class InFolder(unittest.TestCase):
@@ -103,6 +169,28 @@ class InFolder(unittest.TestCase):
             os.rename(os.path.join(self.folder, name), os.path.join(self.folder, "away"))
             self.assertEqual(summary.read(self.folder).left_out(), first.left_out())
             os.rename(os.path.join(self.folder, "away"), os.path.join(self.folder, name))
+
+    def test_the_text_is_read_where_there_is_nothing_else(self):
+        summary.put(os.path.join(self.folder, "SUMMARY"), "processes 1\n")
+        for text, processes in (("", 1), ("{", 1), ("[]", 1), ("{}", 1), ('{"recording":1,"recorder":"linux","counts":[],"unseen":[]}', 1),
+                                ('{"recording":1,"recorder":"rust","counts":[{"code":"processes","count":2}],"unseen":[]}\n', 2)):
+            summary.put(os.path.join(self.folder, "summary.json"), text)
+            self.assertEqual(summary.read(self.folder).number("processes"), processes, text)
+
+
+    def test_a_pipe_is_no_summary(self):
+        os.mkfifo(os.path.join(self.folder, "summary.json"))
+        self.assertIsNone(summary.read(self.folder))
+        self.assertEqual(summary.recorder_of(self.folder), "")
+
+    def test_wrong_values_are_damage(self):
+        summary.put(os.path.join(self.folder, "SUMMARY"), "processes 1\n")
+        for entry in ('{"code":"processes","count":"2"}', '{"code":"processes","count":null}', '{"code":"processes","count":-2}',
+                      '{"code":"processes","count":1.5}', '{"code":"processes","count":1e400}', '{"code":"processes","count":true}',
+                      '{"code":7,"count":2}', '{"code":"unreached-runs","count":1,"files":[{"path":7}]}',
+                      '{"code":"unreached-runs","count":1,"files":[{"path":"a","times":"b"}]}'):
+            summary.put(os.path.join(self.folder, "summary.json"), '{"recording":1,"recorder":"rust","counts":[%s],"unseen":[]}\n' % entry)
+            self.assertEqual(summary.read(self.folder).number("processes"), 1, entry)
 
 
 if __name__ == "__main__":

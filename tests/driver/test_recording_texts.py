@@ -5,7 +5,7 @@ import subprocess
 import sys
 import unittest
 
-from lockdep.options import COMMANDS
+from lockdep.cli.options import COMMANDS
 
 TOP = os.path.join(os.path.dirname(os.path.realpath(__file__)), "..", "..")
 sys.path.append(os.path.join(TOP, "tool", "texts"))

@@ -41,6 +41,22 @@ with open(os.path.join(folder, "SUMMARY"), "w") as file:
         file.write("unseen toy-off\\n")
 """
 
+# The same program with a recorder that writes the form of recorders/log.md: a class has the number of its letter.
+LOGGING = """#!/bin/sh
+# toy-program
+{
+    echo "process $$ 1"
+    for name in "$@"; do
+        key=$(printf %d "'${name#-}")
+        case $name in
+            -*) echo "R 1 $((8 * key + 2)) 0" ;;
+            *) printf 'C %d\\t%s\\ttoy.c:1 main\\tmade in\\nK %d %d 1\\nA 1 %d 0\\n' "$key" "$name" "$key" "$key" "$((8 * key))" ;;
+        esac
+    done
+    echo "E 1"
+} >"$LOCKDEP_TRACES/raw/$$-0"
+"""
+
 # What the driver needs to know of it.
 ENTRY = """
 
@@ -76,6 +92,8 @@ def write(path, text):
 
 @unittest.skipUnless(os.path.isfile(os.path.join(TOP, "recorders", "pthread", "out", "run")), "the recorder of pthreads isn't built")
 class NewRecorder(unittest.TestCase):
+    program, finish, entry = PROGRAM, FINISH, ENTRY
+
     def setUp(self):
         self.room = tempfile.mkdtemp()
         self.addCleanup(shutil.rmtree, self.room)
@@ -85,13 +103,14 @@ class NewRecorder(unittest.TestCase):
         os.makedirs(pthread)
         os.symlink(os.path.join(TOP, "recorders", "pthread", "out"), os.path.join(pthread, "out"))
         shutil.copy(os.path.join(TOP, "recorders", "pthread", "record"), pthread)
-        write(os.path.join(self.home, "recorders", "toy", "finish"), FINISH)
-        write(os.path.join(self.room, "program"), PROGRAM)
-        recorders = os.path.join(self.home, "tool", "lockdep", "recorders.py")
-        change(recorders, "\nPTHREAD = Recorder()\n", ENTRY)
+        if self.finish:
+            write(os.path.join(self.home, "recorders", "toy", "finish"), self.finish)
+        write(os.path.join(self.room, "program"), self.program)
+        recorders = os.path.join(self.home, "tool", "lockdep", "record", "recorders.py")
+        change(recorders, "\nPTHREAD = Recorder()\n", self.entry)
         change(recorders, "(PTHREAD, ", "(PTHREAD, Toy(), ")
         change(recorders, 'ORDER = (', 'ORDER = ("toy", ')
-        change(os.path.join(self.home, "tool", "lockdep", "losses.py"), 'REASONS: dict[str, str] = {\n',
+        change(os.path.join(self.home, "tool", "lockdep", "record", "losses.py"), 'REASONS: dict[str, str] = {\n',
                'REASONS: dict[str, str] = {\n    "toy-off": "no program in Toy was started",\n')
 
     def record(self, *words):
@@ -114,7 +133,7 @@ class NewRecorder(unittest.TestCase):
                          (2, "record: --recorder takes pthread, toy, python, java, rust, go or embed, and not 'nosuch'\n"))
 
     def test_it_is_chosen_by_its_programs_and_is_in_the_help(self):
-        text = "import sys; sys.path.insert(0, sys.argv[1]); from lockdep import recorders; print(recorders.recorder_for(sys.argv[2]).name)"
+        text = "import sys; sys.path.insert(0, sys.argv[1]); from lockdep.record import recorders; print(recorders.recorder_for(sys.argv[2]).name)"
         done = subprocess.run(["python3", "-c", text, os.path.join(self.home, "tool"), os.path.join(self.room, "program")], stdout=subprocess.PIPE,
                               check=True)
         self.assertEqual(done.stdout, b"toy\n")
@@ -123,6 +142,17 @@ class NewRecorder(unittest.TestCase):
             self.assertIn("toy for those of Toy", file.read())
         with open(os.path.join(self.home, "tool", "completions", "lockdep.bash"), encoding="utf-8") as file:
             self.assertIn("pthread toy python java rust go embed", file.read())
+
+
+class NewRecorderOfLogs(NewRecorder):
+    """One that writes the form of the recorders of languages needs no program that makes its traces: two files outside its own folder are changed."""
+    program, finish, entry = LOGGING, None, ENTRY.replace('is_in_process, finisher = "toy", "Toy", True, "toy/finish"',
+                                                          'is_in_process, writes_log = "toy", "Toy", True, True')
+
+    def test_its_traces(self):
+        self.record("-o", "traces", "--recorder", "toy", "./program", "a", "b", "-b", "-a")
+        with open(os.path.join(self.room, "traces", "objects", "task-0001.csv"), encoding="utf-8") as file:
+            self.assertEqual(file.read(), "lockdep,2\nacq,a#1,0,w\nacq,b#1,0,w\nrel,b#1,0\nrel,a#1,0\n")
 
 
 if __name__ == "__main__":

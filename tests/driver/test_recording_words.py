@@ -6,10 +6,12 @@ import sys
 import tempfile
 import unittest
 
-from lockdep import loading, recorders
-from lockdep.nearest import nearest
-from lockdep.options import COMMANDS, Help, parse
-from lockdep.saying import Refusal
+from lockdep.base.command_line import Help
+from lockdep.base.nearest import nearest
+from lockdep.base.saying import Refusal
+from lockdep.binaries import loading
+from lockdep.cli.options import COMMANDS, parse
+from lockdep.record import recorders
 
 
 class CommandLines(unittest.TestCase):
@@ -22,8 +24,12 @@ class CommandLines(unittest.TestCase):
 
     def test_refusals(self):
         for words in (["--nosuch"], ["-o"], ["-o", "--"], ["--frames", "17"], ["--frames=01"], ["--recorder", "perl"], ["--quiet=yes"], ["-"],
-                      ["--signals", "some"], ["--signals="], ["--known", "-"], ["--write-known", "-"], ["--accept-left-out", "threads"], ["--error-exitcode", "256"], ["--known="]):
+                      ["--signals", "some"], ["--signals="], ["--history", "0"], ["--history", "1025"], ["--history", "064"], ["--history", "64MB"], ["--history=On"], ["--known", "-"], ["--write-known", "-"], ["--accept-left-out", "threads"], ["--error-exitcode", "256"], ["--known="]):
             self.assertRaises(Refusal, parse, COMMANDS["run"], words)
+
+    def test_how_much_history_is_kept(self):
+        for size in ("off", "1", "64", "1024"):
+            self.assertEqual(parse(COMMANDS["record"], ["--history", size, "./a"]).last("--history"), size)
 
     def test_what_is_written_may_go_to_standard_output(self):
         self.assertEqual(parse(COMMANDS["run"], ["--json", "-", "./a"]).values, {"--json": ["-"]})

@@ -5,13 +5,14 @@ import unittest
 from unittest import mock
 
 from cases import OfARecording, between, circle, finding, order
-from lockdep import apart
-from lockdep.apart import apart_words, threads_apart
-from lockdep.as_json import json_of_run
-from lockdep.findings import Kind
-from lockdep.forms import Found
-from lockdep.sources import Sources
-from lockdep.verdict import Recorded, remarks_of, verdict_of
+from lockdep.ask import apart
+from lockdep.ask.apart import apart_words, threads_apart
+from lockdep.ask.verdict import Recorded
+from lockdep.places.sources import Sources
+from lockdep.program.kinds import Kind
+from lockdep.say.as_json import json_of_run
+from lockdep.say.found import Found
+from lockdep.say.verdict_words import remarks_of, verdict_of
 
 
 class ThreadsApart(OfARecording):

@@ -4,25 +4,33 @@ import os
 import tempfile
 import unittest
 
-from cases import between, circle, finding, findings, order
-from lockdep.explanation import thread_of
-from lockdep.findings import Event, Kind, findings_of
-from lockdep.groups import groups_of
-from lockdep.known import Sorted
-from lockdep.report import Recording, Report, Wishes
-from lockdep.sources import Sources
-from lockdep.steps import task_words
-from lockdep.terminal import Writer
-from lockdep.text import Text
-from lockdep.threads import called
-from lockdep.verdict import Recorded, by_importance, notes_of, verdict_of
-from lockdep.weak import by_verdict, gone_without, with_tries
-from lockdep.words import Refusal
+from cases import between, circle, finding, findings, order, sightings
+from lockdep.ask.verdict import Recorded, by_importance
+from lockdep.ask.weak import by_verdict, gone_without, with_tries
+from lockdep.base.saying import Refusal
+from lockdep.known.known import Sorted
+from lockdep.places.sources import Sources
+from lockdep.program.findings import Event, findings_of
+from lockdep.program.kinds import Kind
+from lockdep.record.summary import Summary, parse
+from lockdep.record.threads import called
+from lockdep.say.explanation import thread_of
+from lockdep.say.groups import groups_of
+from lockdep.say.report import Recording, Report, ReportOptions
+from lockdep.say.steps import task_words
+from lockdep.say.terminal import Writer
+from lockdep.say.text import Text
+from lockdep.say.verdict_words import notes_of, verdict_of
 
 
 def gate(key, *keys):
     orders = [{"from": one, "kind": "EN", "to": other} for one, other in zip(keys, keys[1:] + keys[:1])]
     return {"gate": key, "orders": orders}
+
+
+def stands_for(number):
+    """The summary of a recording in which a trace stands for so many others."""
+    return Summary(parse("threads-alike %d\n  threads whose traces weren't written\n    task-0002 stands for %d of them\n" % (number, number)))
 
 
 class NamesOfThreads(unittest.TestCase):
@@ -58,7 +66,7 @@ class Reading(unittest.TestCase):
         self.assertIs(one.kind, Kind.CLASSES)
 
     def test_what_is_no_json_of_a_version_that_is_read_is_refused(self):
-        for raw in (b"", b"[]", b'{"lockdep":3,"findings":[]}', b'{"lockdep":2}', b'{"lockdep":2,"findings":[{"type":"circle"}]}',
+        for raw in (b"", b"[]", b'{"lockdep":4,"findings":[]}', b'{"lockdep":2}', b'{"lockdep":2,"findings":[{"type":"circle"}]}',
                     b'{"lockdep":2,"findings":[{"type":"circle","keys":["a/0"],"lines":["x"],"between":{"kind":"new"}}]}'):
             with self.assertRaises(Refusal):
                 findings_of(raw)
@@ -74,7 +82,7 @@ class Reading(unittest.TestCase):
 
     def test_one_confirmed_finding_makes_the_status(self):
         for kinds, status in (("perhaps", "locks"), 9), (("locks", "perhaps"), 9), (("perhaps", "classes"), 0):
-            report = Report(Recording("", ""), Wishes(error_exitcode=9, confirmed_only=True), None)
+            report = Report(Recording("", Summary()), ReportOptions(error_exitcode=9, confirmed_only=True), None)
             report.sorted = Sorted(findings([circle(kind + "/0", between=between(kind)) for kind in kinds]))
             self.assertEqual(report.status, status, kinds)
 
@@ -89,7 +97,7 @@ class Verdicts(unittest.TestCase):
         self.assertEqual(self.said("locks", circle("a#1/0", "b#2/0")), "seen between locks: a#1, b#2, by 2 threads")
 
     def test_threads_that_a_trace_stands_for_count(self):
-        recorded = Recorded([], "  task-0002 stands for 4094 of them\n")
+        recorded = Recorded([], stands_for(4094))
         one = finding(circle("a/0", "b/0", between=between("locks", circle("a#1/0", "b#2/0"))))
         self.assertEqual(verdict_of(one, recorded), "seen between locks: a#1, b#2, by 4096 threads")
 
@@ -99,7 +107,7 @@ class Verdicts(unittest.TestCase):
             for trace, text in zip(traces, ("lockdep,2\n", "lockdep,2\n", "lockdep,1\n", "none")):
                 with open(trace, "w") as file:
                     file.write(text)
-            recorded = Recorded(traces, "  task-0002 stands for 40 of them\n")
+            recorded = Recorded(traces, stands_for(40))
             self.assertEqual([recorded.threads_of([trace]) for trace in traces], [42, 42, 1, 1])
 
     def test_threads_that_are_only_counted_may_be_more(self):
@@ -108,8 +116,9 @@ class Verdicts(unittest.TestCase):
             for trace, text in zip(traces, ("lockdep,2\n", "lockdep,2\n", "none")):
                 with open(trace, "w") as file:
                     file.write(text)
-            for first, summary, words in ((0, "threads-alike 534\n", "by at least 3 threads"), (0, "threads-alike 0\n", "by 3 threads"),
-                                          (2, "threads-alike 534\n", "by 2 threads"), (0, "threads-alike 40\n  task-0002 stands for 40 of them\n", "by 43 threads")):
+            for first, summary, words in ((0, Summary(parse("threads-alike 534\n")), "by at least 3 threads"),
+                                          (0, Summary(parse("threads-alike 0\n")), "by 3 threads"),
+                                          (2, Summary(parse("threads-alike 534\n")), "by 2 threads"), (0, stands_for(40), "by 43 threads")):
                 inner = circle("a#1/0", "b#2/0", orders=[order("a#1/0", "EN", "b#2/0", traces[first]), order("b#2/0", "EN", "a#1/0", traces[2])])
                 said = verdict_of(finding(circle("a/0", "b/0", between=between("locks", inner))), Recorded(traces, summary))
                 self.assertEqual(said, "seen between locks: a#1, b#2, " + words)
@@ -118,6 +127,20 @@ class Verdicts(unittest.TestCase):
         inner = circle("a#1/0", "b#2/0", only="t/objects/task-0001.csv")
         inner["orders"] = [order("a#1/0", "EN", "b#2/0"), order("b#2/0", "EN", "a#1/0", record=7, since=6)]
         self.assertEqual(self.said("locks", inner), "seen between locks: a#1, b#2, by one thread")
+
+    def test_one_thread_has_several_traces_with_runs_of_its_handlers(self):
+        with tempfile.TemporaryDirectory() as folder:
+            os.makedirs(os.path.join(folder, "signals"))
+            os.makedirs(os.path.join(folder, "objects"))
+            with open(os.path.join(folder, "signals", "threads"), "w") as file:
+                file.write("task-0001.csv 1\ntask-0002.csv 1\ntask-0003.csv 2\n")
+            own, run, other = (os.path.join(folder, "objects", "task-%04d.csv" % number) for number in (1, 2, 3))
+            for traces, count, words in (([run], 1, "by one thread"), ([run, own], 2, "by one thread"), ([run, other], 2, "by 2 threads"),
+                                         ([run], 17, "by 2 threads")):
+                orders = [dict(order("a#1/0", "EN", "b#2/0", own), traces=sightings([own], 1)),
+                          dict(order("b#2/0", "EN", "a#1/0", run), traces=sightings(traces, count))]
+                one = finding(circle("a/0", "b/0", between=between("locks", circle("a#1/0", "b#2/0", orders=orders))))
+                self.assertEqual(verdict_of(one, Recorded([own, run, other])), "seen between locks: a#1, b#2, " + words, traces)
 
     def test_the_first_records_of_one_thread_alone_are_no_proof_of_one(self):
         inner = circle("a#1/0", "b#2/0")
@@ -212,7 +235,7 @@ class Weak(unittest.TestCase):
         for weak, either, any in (((timed, new, {}), both, {}), ((timed, {}, {}), {}, {}), (({}, {}, ended), {}, {}), ((timed, {}, ended), {}, late),
                                   ((timed, new, ended), both, {"task-0001.csv": [3, 5], "task-0002.csv": [2, 7]})):
             of_kinds = dict(zip((Kind.TIMED, Kind.NEW, Kind.ENDED), weak))
-            self.assertEqual(by_verdict(of_kinds), {**of_kinds, Kind.EITHER: either, Kind.ANY: any})
+            self.assertEqual(by_verdict(of_kinds), {**of_kinds, Kind.TIMED_OR_NEW: either, Kind.TIMED_ENDED_OR_NEW: any})
 
     def test_a_finding_is_gone_if_no_order_of_it_is_left(self):
         self.assertEqual(self.gone([], circle("a/0", "b/0")), [["a/0", "b/0"]])

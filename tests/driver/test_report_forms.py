@@ -8,17 +8,18 @@ import unittest
 from unittest import mock
 
 from cases import between, circle, findings
-from lockdep import diff, files
-from lockdep.as_json import json_of_run, with_places
-from lockdep.breaches import Breach
-from lockdep.diff import Side
-from lockdep.forms import Found
-from lockdep.junit import junit
-from lockdep.places import Made
-from lockdep.sources import Sources
-from lockdep.symbols import Address
-from lockdep.verdict import Recorded
-from lockdep.words import Refusal
+from lockdep.ask.breaches import Breach
+from lockdep.ask.verdict import Recorded
+from lockdep.base import files
+from lockdep.base.saying import Refusal
+from lockdep.binaries.symbols import Address
+from lockdep.cli import diff
+from lockdep.cli.diff import Side
+from lockdep.places.places import Made
+from lockdep.places.sources import Sources
+from lockdep.say.as_json import json_of_run, with_places
+from lockdep.say.found import Found
+from lockdep.say.junit import junit
 
 
 def status_of(call, **more):
@@ -42,7 +43,7 @@ class Output(unittest.TestCase):
             self.assertEqual(raised.exception.status, 2)
 
     def test_a_reader_of_diff_that_has_enough_needs_no_message(self):
-        call = "from unittest import mock; from lockdep import diff; diff.sides_of = lambda name: [diff.Side('head', frozenset())] * 9999; " \
+        call = "from unittest import mock; from lockdep.cli import diff; diff.sides_of = lambda name: [diff.Side('head', frozenset())] * 9999; " \
             "sys.exit(diff.main(['one', 'two']))"
         out, into = os.pipe()
         os.close(out)
@@ -52,6 +53,22 @@ class Output(unittest.TestCase):
 
 
 class Sides(unittest.TestCase):
+    def test_json_that_is_too_deep_is_refused(self):
+        with tempfile.TemporaryDirectory() as folder:
+            name = os.path.join(folder, "deep.json")
+            with open(name, "w", encoding="utf-8") as file:
+                file.write("[" * 200000)
+            with self.assertRaises(Refusal):
+                diff.sides_of(name)
+
+    def test_a_recording_without_traces_is_refused_by_its_reason(self):
+        with tempfile.TemporaryDirectory() as folder:
+            os.mkdir(os.path.join(folder, "raw"))
+            open(os.path.join(folder, "raw", "settings"), "w").close()
+            with self.assertRaises(Refusal) as raised:
+                diff.sides_of(folder)
+            self.assertIn("whose traces weren't made", raised.exception.line)
+
     def test_json_and_a_folder_have_places_by_types(self):
         made = [Made("S::m@%s" % name, Address("s.c:%d %s" % (line, name), None), "heap", name) for line, name in ((3, "one"), (9, "two"))]
         sources = Sources()

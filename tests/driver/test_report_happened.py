@@ -4,16 +4,18 @@ import os
 import unittest
 
 from cases import OfARecording, between, circle, finding
-from lockdep.as_json import json_of_run
-from lockdep.findings import Kind
-from lockdep.forms import Found
-from lockdep.happened import Happened, Stood, entry_of, read_provoked, take_happened, write_provoked
-from lockdep.junit import junit
-from lockdep.sarif import sarif
-from lockdep.sources import Sources
-from lockdep.suppressions import Entry
-from lockdep.symbols import Address
-from lockdep.verdict import Recorded, by_importance, verdict_of
+from lockdep.ask.happened import entry_of, take_happened
+from lockdep.ask.verdict import Recorded, by_importance
+from lockdep.binaries.symbols import Address
+from lockdep.known.suppressions import Entry
+from lockdep.places.sources import Sources
+from lockdep.program.kinds import Kind
+from lockdep.record.provoked import Happened, Stood, read_provoked, write_provoked
+from lockdep.say.as_json import json_of_run
+from lockdep.say.found import Found
+from lockdep.say.junit import junit
+from lockdep.say.sarif import sarif
+from lockdep.say.verdict_words import verdict_of
 
 THREADS = [Stood(1, "payer", "holds a and waits for b", (Address("/no/server", 0x20),), (Address("/no/server", 0x10),)),
            Stood(2, "", "holds b and waits for a", (Address("/no/server", 0x40),), ())]

@@ -4,17 +4,18 @@ import unittest
 from unittest import mock
 
 from cases import between, circle, findings
-from lockdep.breaches import Breach
-from lockdep.findings import Event
-from lockdep.known import list_of, sort
-from lockdep.places import Made
-from lockdep.report import hides_blocked
-from lockdep.sources import Sources
-from lockdep.suppressions import entries_of, pattern_text
-from lockdep.symbols import Address, Frame
-from lockdep.taking_part import TakingPart
-from lockdep.where_made import Caller, is_same_path, place_of
-from lockdep.words import Refusal, type_of_class
+from lockdep.ask.breaches import Breach
+from lockdep.base.saying import Refusal
+from lockdep.base.words import type_of_class
+from lockdep.binaries.symbols import Address, Frame
+from lockdep.known.known import list_of, sort
+from lockdep.known.suppressions import entries_of, pattern_text
+from lockdep.known.taking_part import TakingPart
+from lockdep.places.places import Made
+from lockdep.places.sources import Sources
+from lockdep.places.where_made import Caller, is_same_path, place_of
+from lockdep.program.findings import Event
+from lockdep.say.report import hides_blocked
 
 
 class Patterns(unittest.TestCase):
@@ -345,13 +346,13 @@ class OtherLocks(unittest.TestCase):
         graph = '  "S::m@1/0" -> "P::m@2/0" [label="EN"]\n  "P::m@2/0" -> "S::m@1/0" [label="EN"]\n  "S::m@3/0" -> "Q/0" [label="EN"]\n'
         sources = Made_up({"S::m@1": made_in("a"), "P::m@2": made_in("b"), "S::m@3": made_in("c"), "Q": made_in("d")})
         answer = mock.Mock(status=1, output=graph.encode())
-        with mock.patch("lockdep.taking_part.ask", return_value=answer):
+        with mock.patch("lockdep.known.taking_part.ask", return_value=answer):
             taking = TakingPart(sources, ["t/task-0001.csv"])
             self.assertEqual([made.name for made in taking.made("circle S::m/0 EN P::m/0")], ["S::m@1", "P::m@2"])
             self.assertEqual([made.name for made in taking.made("circle S::m/0 EN Q/0")], ["S::m@3", "Q"])
             self.assertEqual([made.name for made in taking.made("double hardirq S::m/0")], ["S::m@1", "S::m@3"])
         answer.status = 2
-        with mock.patch("lockdep.taking_part.ask", return_value=answer):
+        with mock.patch("lockdep.known.taking_part.ask", return_value=answer):
             self.assertEqual([made.name for made in TakingPart(sources, ["t"]).made("circle S::m/0 EN P::m/0")], ["S::m@1", "S::m@3", "P::m@2"])
 
 

@@ -1,7 +1,7 @@
 """Where classes are made, by the table `classes` of a recording."""
 import unittest
 
-from lockdep.places import made_of
+from lockdep.places.places import made_of
 
 VARIABLE, INSIDE = 0xA160, 0x28
 

@@ -9,20 +9,21 @@ import tempfile
 import unittest
 from unittest import mock
 
-from lockdep import report as reporting, seen
-from lockdep.asking import ask_about, text_in
-from lockdep.blocked import blocked_threads
-from lockdep.diff import sides_of_folder
-from lockdep.findings import Kind
-from lockdep.groups import groups_of
-from lockdep.known import list_of, sort
-from lockdep.report import Recording, Report, Wishes
-from lockdep.signals import Handler, Signals, handlers_in
-from lockdep.sources import sources_of
-from lockdep.summary import Summary, parse
-from lockdep.suppressions import entries_of
-from lockdep.symbols import Symbols
-from lockdep.words import Refusal
+from lockdep.ask.asking import ask_about
+from lockdep.ask.blocked import blocked_threads
+from lockdep.ask.signals import Signals
+from lockdep.base.saying import Refusal
+from lockdep.binaries.symbols import Symbols
+from lockdep.cli.diff import sides_of_folder
+from lockdep.known.known import list_of, sort
+from lockdep.known.suppressions import entries_of
+from lockdep.places.sources import sources_of
+from lockdep.program.kinds import Kind
+from lockdep.record.handlers import Handler, handlers_in
+from lockdep.record.summary import Summary, parse, read
+from lockdep.say import report as reporting, seen
+from lockdep.say.groups import groups_of
+from lockdep.say.report import Recording, Report, ReportOptions
 
 # A server whose threads take table, stats and pool. The handler of SIGUSR1 takes table, that of SIGALRM stats.
 USR1 = {"number": 1, "signal": "SIGUSR1", "handler": "on_usr1", "module": "/srv/server", "offset": "0x10", "file": "/src/server.c", "line": 30, "runs": 12,
@@ -117,10 +118,10 @@ class OfHandlers(unittest.TestCase):
     def form(self, form):
         """What `run` and `confirm` write in a form."""
         name = os.path.join(self.room.name, form)
-        made = Report(Recording(self.folder, SUMMARY), Wishes(**{form: name}), ask_about(self.folder))
+        made = Report(Recording(self.folder, Summary(parse(SUMMARY))), ReportOptions(**{form: name}), ask_about(self.folder))
         made.sort()
         made.look_deeper()
-        made.write_forms(made.wishes.forms)
+        made.write_forms(made.options.forms)
         with open(name, encoding="utf-8") as file:
             return file.read()
 
@@ -168,6 +169,10 @@ class Told(OfHandlers):
     def test_a_run_of_a_handler_and_another_thread(self):
         third = ("acq,pool,0,w", "server.c:50 other"), ("acq,table,0,w", "server.c:51 other"), ("rel,table,0", ""), ("rel,pool,0", "")
         self.assertEqual(self.circle_with_a_run([third]), ["  seen between locks: pool, table, by 2 threads"])
+
+    def test_a_run_of_a_handler_and_another_thread_that_only_tries(self):
+        third = ("acq,pool,0,w", "server.c:50 other"), ("acq,table,0,tw", "server.c:51 other"), ("rel,table,0", ""), ("rel,pool,0", "")
+        self.assertEqual(self.circle_with_a_run([third]), ["  seen between locks: pool, table, by one thread"])
 
     def test_without_the_numbers_of_threads_each_trace_is_one(self):
         self.circle_with_a_run()
@@ -413,8 +418,8 @@ class Judged(OfHandlers):
         self.assertEqual(self.confirmed("--strict")[0], 1)
         self.assertIn("  taken with SIGUSR1 unblocked: insert at server.c:41 takes table#1", self.confirmed()[1].split("\n"))
 
-    def status(self, **wishes):
-        made = Report(Recording(self.folder, SUMMARY), Wishes(error_exitcode=9, **wishes), ask_about(self.folder))
+    def status(self, **options):
+        made = Report(Recording(self.folder, Summary(parse(SUMMARY))), ReportOptions(error_exitcode=9, **options), ask_about(self.folder))
         made.sort()
         return made.status
 
@@ -474,12 +479,12 @@ class Judged(OfHandlers):
         self.set_of(2, IN_ALARM)
         self.assertRaises(Refusal, sides_of_folder, self.folder)
         with mock.patch.object(reporting, "complain"), self.assertRaises(Refusal) as raised:
-            reporting.report(Recording(self.folder, SUMMARY), Wishes())
+            reporting.report(Recording(self.folder, Summary(parse(SUMMARY))), ReportOptions())
         self.assertEqual((raised.exception.status, raised.exception.line),
                          (2, "nothing was found, but what was left out wasn't checked, so this run isn't judged"))
         self.set_of(2, POOL, WORKER, IN_ALARM)
         with mock.patch.object(reporting, "complain"):
-            made = reporting.report(Recording(self.folder, SUMMARY), Wishes())
+            made = reporting.report(Recording(self.folder, Summary(parse(SUMMARY))), ReportOptions())
         self.assertEqual((made.status, [finding.head for finding in made.new], made.recording.lost),
                          (2, ["inversion SIGALRM:on_alarm stats/0 pool/0"], "on_usr1, the handler for SIGUSR1, the traces of which were refused"))
 
@@ -506,7 +511,7 @@ class Judged(OfHandlers):
         self.set_of(2, TABLE[:1], IN_USR1[1:2])
 
     def blocked(self):
-        return [thread.sentence for thread in blocked_threads(self.folder, text_in(os.path.join(self.folder, "SUMMARY")))]
+        return [thread.sentence for thread in blocked_threads(ask_about(self.folder), read(self.folder))]
 
     def test_a_handler_that_hangs_is_named(self):
         self.hang()

@@ -9,14 +9,16 @@ import tempfile
 import termios
 import unittest
 
-from lockdep.blocked import blocked_threads
-from lockdep.cplusplus import Demangler
-from lockdep.elf import within_functions
-from lockdep.explanation import Line
-from lockdep.places import key_of_record, made_of, record_lines
-from lockdep.symbols import Address, Symbols, frame_of, place_words, source_frame
-from lockdep.terminal import Writer, broken, note_lines, width_of
-from lockdep.words import class_of_lock, stands_for_several, type_of_class, visible
+from lockdep.ask.asking import ask_about_threads
+from lockdep.ask.blocked import blocked_threads
+from lockdep.base.words import class_of_lock, stands_for_several, type_of_class, visible
+from lockdep.binaries.cplusplus import Demangler
+from lockdep.binaries.elf import within_functions
+from lockdep.binaries.symbols import Address, Symbols, frame_of, place_words, source_frame
+from lockdep.places.places import key_of_record, made_of, record_lines
+from lockdep.record.summary import Summary, parse
+from lockdep.say.lines import Line
+from lockdep.say.terminal import Writer, broken, note_lines, width_of
 
 
 class Lines(unittest.TestCase):
@@ -150,7 +152,7 @@ class Blocked(unittest.TestCase):
                 with open(os.path.join(folder, "objects", "task-%04d.csv" % number), "w") as file:
                     file.write("lockdep,2\n" + "".join("rel,%s,0\n" % word[1:] if word[0] == "-" else "acq,%s,0,w\n" % word for word in trace.split()))
                 open(os.path.join(folder, "task-%04d.csv" % number), "w").close()
-            return [thread.sentence for thread in blocked_threads(folder, summary)]
+            return [thread.sentence for thread in blocked_threads(ask_about_threads(folder), Summary(parse(summary)))]
 
     def test_two_threads_that_wait_for_each_other(self):
         summary = "waiting 2\n  task-0001 waits for b, holding a\n  task-0002 waits for a, holding b\nat-exit 0\n"
