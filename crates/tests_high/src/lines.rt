@@ -4,8 +4,8 @@ use ld_words::{Line, LineFault, command_line};
 use std::slice::from_ref;
 
 // What a line asks for: its word, its workers, whether it has `--many`, whether it has the flag of its own, `--json` or
-// `--findings`, and its files. Chains have no workers, which counts as 0, and so do lines that are refused or ask for
-// help.
+// `--findings`, and its files. Chains and schedules have no workers, which counts as 0, and so do lines that are refused
+// or ask for help.
 type Asked<'l, 'a> = (&'static str, u16, bool, bool, &'l [&'a str]);
 
 fn asked<'l, 'a>(line: &'l Result<Line<'a>, LineFault>) -> Asked<'l, 'a> {
@@ -48,6 +48,7 @@ fn asked<'l, 'a>(line: &'l Result<Line<'a>, LineFault>) -> Asked<'l, 'a> {
                 files,
             },
         ) => ("condense", *workers, *many, false, files.as_slice()),
+        Ok(Line::Schedule { json, files }) => ("schedule", 0, false, *json, files.as_slice()),
         Ok(Line::Chains { file: Some(file) }) => ("chains", 0, false, false, from_ref(file)),
         Ok(Line::Chains { file: None }) => ("chains", 0, false, false, &[]),
         Err(LineFault::Help(_)) => ("help", 0, false, false, &[]),
@@ -67,7 +68,7 @@ fn explain_word(locks: bool, confirmed_only: bool) -> &'static str {
 }
 
 // Words, and what they ask for.
-static LINES: [(&[&str], Asked<'_, '_>); 37] = [
+static LINES: [(&[&str], Asked<'_, '_>); 42] = [
     (&["lockdep", "check"], ("check", 4, false, false, &[])),
     (
         &["lockdep", "check", "a.txt"],
@@ -189,6 +190,23 @@ static LINES: [(&[&str], Asked<'_, '_>); 37] = [
     (
         &["lockdep", "graph", "--", "--findings"],
         ("graph", 4, false, false, &["--findings"]),
+    ),
+    (&["lockdep", "schedule"], ("schedule", 0, false, false, &[])),
+    (
+        &["lockdep", "schedule", "a", "--json", "b"],
+        ("schedule", 0, false, true, &["a", "b"]),
+    ),
+    (
+        &["lockdep", "schedule", "--", "--json"],
+        ("schedule", 0, false, false, &["--json"]),
+    ),
+    (
+        &["lockdep", "schedule", "--many", "a"],
+        ("refused", 0, false, false, &[]),
+    ),
+    (
+        &["lockdep", "schedule", "--workers", "2", "a"],
+        ("refused", 0, false, false, &[]),
     ),
     (&["lockdep", "chains"], ("chains", 0, false, false, &[])),
     (
