@@ -11,8 +11,8 @@
 #include <stdint.h>
 #include <string.h>
 
-/* "lockrece", little endian: its last letter is another one when what follows is laid out in another way. */
-#define RAW_MAGIC UINT64_C(0x656365726b636f6c)
+/* "lockrecf", little endian: its last letter is another one when what follows is laid out in another way. */
+#define RAW_MAGIC UINT64_C(0x666365726b636f6c)
 
 /* The file's size, if no limit forbids it, and the size under which a recording may well be too small. */
 #define RAW_BYTES (UINT64_C(4) << 30)
@@ -42,16 +42,12 @@
 enum mode { MODE_WRITE, MODE_READ, MODE_REC_READ, MODE_TRY_WRITE, MODE_TRY_READ, MODE_TRY_REC_READ, MODE_RELEASE, MODE_STATE };
 
 /* Added to the mode of an acquisition: the program says in which order locks of the class are nested, and this one comes after all of them
-   that are held. And of one that comes under others: the wait for it gives up at a time; the thread itself made the lock, has held
-   others ever since, and no other thread has come to it; it is a thread that had given notice of its end; it is a routine that had run once, for which the thread would
-   have waited a little earlier. RAW_UNDER_NEW, of a lock that isn't a thread: all locks that the thread held were new, and this one isn't. */
+   that are held. And of one that comes under others: the wait for it gives up at a time; it is a routine that had run once, for which the thread
+   would have waited a little earlier. */
 #define RAW_IN_ORDER 8
 #define RAW_TIMED 16
-#define RAW_NEW 32
-#define RAW_ENDED 64
 #define RAW_DONE 128
-#define RAW_WEAK (RAW_TIMED | RAW_NEW | RAW_ENDED | RAW_DONE)
-#define RAW_UNDER_NEW (RAW_NEW | RAW_ENDED)
+#define RAW_WEAK (RAW_TIMED | RAW_DONE)
 
 /* One acquisition or release: the object in the low 24 bits and the mode above them, and where it happened. Of MODE_STATE it is the state that
    the thread is in from there on, instead of an object; until then it is in none. */
@@ -66,7 +62,6 @@ static inline uint32_t raw_what(uint32_t object, uint32_t mode) { return mode <<
 static inline uint32_t raw_object(uint32_t what) { return what & ((UINT32_C(1) << RAW_OBJECT_BITS) - 1); }
 static inline enum mode raw_plain(uint32_t mode) { return (enum mode)(mode & (RAW_IN_ORDER - 1)); }
 static inline enum mode raw_mode(uint32_t what) { return raw_plain(what >> RAW_OBJECT_BITS); }
-static inline int raw_is_new_itself(uint32_t added) { return (added & RAW_UNDER_NEW) == RAW_NEW; }
 static inline int raw_has(uint32_t what, uint32_t added) { return (what >> RAW_OBJECT_BITS & added) != 0; }
 
 /* An address as a module's number and an offset in its file, in 16 bits and 48; RAW_NOWHERE where it is in no module. */
@@ -87,6 +82,7 @@ struct raw_process {
     uint32_t id; /* the system's number of it; written last */
     uint32_t parent;
     uint64_t history_end; /* the time from which on steps may be missing in its history; 0: none is */
+    uint64_t first;       /* the pthread_t of the thread that it began with */
 };
 
 struct raw_module {
@@ -230,6 +226,7 @@ struct raw_life {
     uint32_t process;
     uint64_t by, thread;
     uint64_t known; /* how many of these there were when the call of a start had returned, or when a join was called */
+    uint32_t class; /* of a start: the class as which the thread is joined; 0 if that isn't known */
 };
 
 /* A source of interrupts: a signal with a handler of it. */
@@ -274,18 +271,6 @@ struct raw_left_out {
 enum raw_waits { RAW_WAITS_NOT, RAW_WAITS, RAW_WAITS_AT_EXIT, RAW_WAITS_FOR_A_TIME };
 #define RAW_CALLED 16 /* bytes of a thread's name, with the 0 at its end */
 
-/* A condition that a thread signalled, with the lock that it took last, or had released just before: it may have said so that it is done. Of more
-   conditions than are kept here it isn't known whether one was signalled before. */
-#define RAW_NOTICES 2 /* of a thread; the newest comes first */
-struct raw_notice {
-    uint64_t condition, lock; /* their addresses; 0 of none */
-    uint64_t moment;          /* of the preload library */
-    uint64_t calls;           /* of the thread when all that it held then is released, if it takes nothing meanwhile */
-    uint32_t pauses;          /* of the thread */
-    uint16_t is_alone;        /* it held no other lock */
-    uint16_t is_again;        /* it had signalled the condition before, and so says more than that it is done */
-};
-
 struct raw_thread {
     uint32_t process;
     uint32_t is_ready;
@@ -301,12 +286,8 @@ struct raw_thread {
     uint32_t system_thread; /* by which number the thread's own code and its runs belong together */
     uint32_t start;         /* the class as which the thread is joined; 0 if that isn't known */
     uint32_t is_of_parent;  /* of a run: it began in the process that forked this one, and its locks may be held by what it interrupted there */
-    uint32_t pauses;    /* grows as the thread, or a handler that runs on it, begins to wait, and when it doesn't wait any more */
-    uint32_t last;      /* if it ended with nothing held: what was taken last with nothing held, as in raw_record, unless that was a try; else 0 */
-    uint64_t last_lock; /* its address */
     char name[RAW_CALLED];
     uint64_t chunks[RAW_CHUNKS]; /* where they begin in the file; 0 if there is none yet */
-    struct raw_notice notices[RAW_NOTICES]; /* all 0 if the thread ended with a lock held */
 };
 
 /* ---- The history: what each thread of a process did, step by step, as far as there is room for it.

@@ -149,33 +149,21 @@ static void take_back(struct trace *t, const struct held *new) {
             write_event(t, &t->held[i], mode_words[t->held[i].mode % MODE_TRY_WRITE + MODE_TRY_WRITE], t->held[i].place);
 }
 
-/* ---- Weak acquisitions: under others, and by a wait that gives up, of a lock that no other thread knew yet or under such locks alone, or of a
-   thread that had given notice of its end. They are in the trace as any others; a file says which they are. */
+/* ---- Weak acquisitions: under others by a wait that gives up at a time, and the waits of a handler that comes late. They are in the trace as any
+   others; a file says which they are. */
 
-static const struct {
-    uint32_t added;
-    const char *word;
-} weak_kinds[] = {{RAW_TIMED, "timed"}, {RAW_NEW, "new-lock"}, {RAW_ENDED, "ended-thread"}};
-
-/* In which ways an acquisition of the trace is weak. A thread that is waited for is itself held under all that it takes, and is no new lock. Of a
-   handler that comes late all waits are. */
-static uint32_t weak_of(const struct trace *t, const struct raw_record *r) {
-    uint32_t added = r->what >> RAW_OBJECT_BITS & RAW_WEAK, is_late = t->is_frame && comes_late(t->source) && !is_try(raw_mode(r->what)) ? RAW_ENDED : 0;
-    bool is_under_new = (added & RAW_UNDER_NEW) == RAW_UNDER_NEW;
-    if (is_under_new)
-        added &= own_object(t->arena, t->raw) ? ~(uint32_t)RAW_UNDER_NEW : ~(uint32_t)RAW_ENDED;
-    return added | is_late;
+static void tell_weak(struct trace *t, const char *word) {
+    if (!t->weak)
+        t->weak = checked(open_memstream(&t->weak_text, &t->weak_length));
+    add_content(&t->content, UINT64_C(1) << 61 | (unsigned char)*word);
+    fprintf(t->weak, "%s.csv %lu %s\n", t->name, (unsigned long)t->events + 1, word);
 }
 
-static void tell_weak(struct trace *t, uint32_t added) {
-    for (size_t i = 0; i < sizeof weak_kinds / sizeof *weak_kinds; i++) {
-        if (!(added & weak_kinds[i].added))
-            continue;
-        if (!t->weak)
-            t->weak = checked(open_memstream(&t->weak_text, &t->weak_length));
-        add_content(&t->content, weak_kinds[i].added);
-        fprintf(t->weak, "%s.csv %lu %s\n", t->name, (unsigned long)t->events + 1, weak_kinds[i].word);
-    }
+static void tell_if_weak(struct trace *t, const struct raw_record *r) {
+    if (raw_has(r->what, RAW_TIMED))
+        tell_weak(t, "timed");
+    if (t->is_frame && comes_late(t->source) && !is_try(raw_mode(r->what)))
+        tell_weak(t, "late");
 }
 
 static struct late_file weak_file;
@@ -221,7 +209,7 @@ void take(struct trace *t, const struct raw_record *r) {
     if (h.is_written)
         write_event(t, &h, mode_word(t, &h), r->place);
     if (h.is_written)
-        tell_weak(t, weak_of(t, r));
+        tell_if_weak(t, r);
     if (h.is_written && is_in_order)
         take_back(t, &h);
     t->written += h.is_written;

@@ -7,8 +7,8 @@
    FOLDER/objects              the same traces with the names of single locks
    FOLDER/classes              for each class's name, where that is
    FOLDER/classes.places       by which callers it is made, if it is known by them
-   FOLDER/lives                which thread started and joined which, if any was joined
-   FOLDER/weak                 which acquisitions are by waits that give up, of new locks, or of threads that had given notice of their end, if any are
+   FOLDER/lives                which thread started and joined which, if there was room for all of that
+   FOLDER/weak                 which acquisitions are by waits that give up, if any are
    FOLDER/breaches             what a program did against what it says of its locks, if it did
    FOLDER/breaches.places      where, in two places for each of these
    FOLDER/signals              what signals' handlers may interrupt, if the program has any: a set of traces for each one that took a lock
@@ -91,5 +91,6 @@ int main(int argc, char **argv) {
         write_histories(argv[1]);
     write_summary(argv[1]);
     forget_looks();
+    become_look();
     return 0;
 }

@@ -188,6 +188,15 @@ uint32_t own_object(const struct arena *a, const struct raw_thread *t);
 const struct place *start_of(struct arena *a, uint32_t object, struct place *room);
 bool is_going_on(const struct arena *a, uint32_t object);
 
+/* ---- looking.c */
+
+bool is_loaded_file(const struct module *m);
+void become_look(void);
+
+/* ---- starts.c */
+
+uint32_t way_of_start(struct arena *a, uint32_t class); /* the same number for all that were started alike; 0 if that isn't known */
+
 /* ---- lives.c */
 
 void write_lives(const char *folder);

@@ -29,7 +29,7 @@ static void release(struct history *h, const struct task *task, uint32_t number,
 static void give_back(struct history *h, const struct task *task, const struct step *step) {
     uint32_t number = lock_at(&h->locks, step->about, LOCK_PLAIN);
     if (step->place)
-        h->locks.locks[number - 1].object = step->place;
+        be_object(&h->locks, number, step->place);
     release(h, task, number, 0);
 }
 
@@ -47,9 +47,12 @@ static void pass_once(struct history *h, const struct task *task, const struct s
     release(h, task, number, step->place);
 }
 
+/* Who joins it gets a message from its end: nothing after the join comes before that, whoever takes the thread as a lock. */
 static void end_task(struct history *h, struct task *task) {
-    if (task->lock)
+    if (task->lock) {
+        task->end = give(h, task, 0);
         release(h, task, task->lock, 0);
+    }
     task->is_over = true;
 }
 
@@ -90,12 +93,14 @@ static void write_history_of(const char *folder, struct arena *a, uint32_t proce
         take_step(&h, &step);
     end_steps(steps);
     give_names(&h.locks, &h.threads, a, process);
+    find_absent(&h);
     write_history(folder, &h, a->processes[process]);
     count_left_out(&h);
     forget_messages(&h);
     forget_locks(&h.locks);
     forget_threads(&h.threads);
     free(h.lines);
+    free(h.absent);
 }
 
 static void make_folder(const char *folder) {

@@ -41,6 +41,7 @@ struct task {
     char name[MAX_OBJECT_NAME + 1];
     uint64_t waits_for, waits_since; /* a condition, and since which step */
     uint32_t round;                  /* the message of a barrier, which it gets as it goes on */
+    uint32_t end;                    /* the message that who joins it gets */
 };
 
 struct start {
@@ -87,12 +88,13 @@ struct lock {
 struct locks { /* numbers count from 1 */
     struct lock *locks;
     size_t count;
-    struct map by_address;
+    struct map by_address, by_object; /* by_object: the last lock that an object of the recording is, which may have several */
 };
 
 uint32_t new_lock(struct locks *locks, enum lock_kind kind);
 uint32_t lock_at(struct locks *locks, uint64_t address, enum lock_kind kind);
 uint32_t own_lock_of(struct locks *locks, uint32_t task, uint32_t object);
+void be_object(struct locks *locks, uint32_t number, uint32_t object);
 void name_lock_at(struct locks *locks, const struct threads *threads, uint64_t address, uint32_t object, bool is_another);
 enum taken { TAKEN_NOT, TAKEN_FIRST, TAKEN_AGAIN }; /* not: it is left out; again: by a thread that has it */
 enum taken take_lock(struct lock *lock, uint32_t task, bool is_writer);
@@ -129,12 +131,18 @@ struct history {
     size_t line_count;
     struct message *messages;
     size_t message_count;
+    int *absent; /* locks by their keys, as tell_object has them */
+    size_t absent_count;
 };
 
 void add_line(struct history *h, enum verb verb, const struct task *task, uint32_t about, uint8_t mode, uint32_t place);
 uint32_t give(struct history *h, const struct task *task, uint32_t place);
 void get(struct history *h, const struct task *task, uint32_t message, uint32_t place);
 void write_history(const char *folder, struct history *h, uint32_t number);
+
+/* ---- history_absent.c */
+
+void find_absent(struct history *h);
 
 /* ---- history_messages.c */
 

@@ -22,7 +22,7 @@ uint32_t lock_at(struct locks *l, uint64_t address, enum lock_kind kind) {
 uint32_t own_lock_of(struct locks *l, uint32_t task, uint32_t object) {
     uint32_t number = new_lock(l, LOCK_THREAD);
     l->locks[number - 1].task = task;
-    l->locks[number - 1].object = object;
+    be_object(l, number, object);
     return number;
 }
 
@@ -80,13 +80,19 @@ static bool is_free(const struct lock *lock, const struct threads *t) {
     return true;
 }
 
+void be_object(struct locks *l, uint32_t number, uint32_t object) {
+    l->locks[number - 1].object = object;
+    if (object)
+        *value_at(&l->by_object, object) = number;
+}
+
 /* A lock that is met first by two threads at once is named by both, and is one lock: so it is while a thread has it. */
 void name_lock_at(struct locks *l, const struct threads *t, uint64_t address, uint32_t object, bool is_another) {
     uint32_t *number = value_at(&l->by_address, address);
     const struct lock *there = *number ? &l->locks[*number - 1] : NULL;
     if (!there || (is_another && there->is_used && is_free(there, t)))
         *number = new_lock(l, LOCK_PLAIN);
-    l->locks[*number - 1].object = object;
+    be_object(l, *number, object);
 }
 
 static void tell_lock(char *text, size_t room, const struct lock *lock, const struct threads *t, struct arena *a, uint32_t process) {
@@ -146,4 +152,5 @@ void forget_locks(struct locks *l) {
         free(l->locks[i].holders);
     free(l->locks);
     forget_map(&l->by_address);
+    forget_map(&l->by_object);
 }

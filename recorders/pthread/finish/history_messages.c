@@ -36,6 +36,7 @@ static void joined(struct history *h, struct task *task, const struct step *step
         return;
     add_line(h, WRITES_TAKE, task, other->lock, step->mode, step->place);
     add_line(h, WRITES_RELEASE, task, other->lock, 0, step->place);
+    get(h, task, other->end, step->place);
 }
 
 /* ---- Conditions: a wait gets the last signal that came since it began. */

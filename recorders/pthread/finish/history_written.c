@@ -84,19 +84,36 @@ static void write_lines(FILE *file, FILE *places, struct history *h) {
     }
 }
 
+static void write_faults(FILE *file, const struct history *h) {
+    static const char *const reasons[] = {[FAULT_TAKEN_BY_ANOTHER] = "taken-by-another", [FAULT_NOT_HELD] = "not-held"};
+    for (size_t i = 0; i < h->locks.count; i++)
+        if (h->locks.locks[i].is_used && h->locks.locks[i].fault)
+            fprintf(file, "%s %s\n", h->locks.locks[i].name, reasons[h->locks.locks[i].fault]);
+}
+
+static void write_absent(FILE *file, const struct history *h) {
+    char name[MAX_OBJECT_NAME + 1];
+    for (size_t i = 0; i < h->absent_count; i++) {
+        tell_object(name, sizeof name, h->absent[i]);
+        fprintf(file, "%s absent\n", name);
+    }
+}
+
+static bool has_faults(const struct history *h) {
+    for (size_t i = 0; i < h->locks.count; i++)
+        if (h->locks.locks[i].is_used && h->locks.locks[i].fault)
+            return true;
+    return false;
+}
+
 /* The locks that are left out: NAME REASON. */
 static void write_left_out(const char *path, const struct history *h) {
-    static const char *const reasons[] = {[FAULT_TAKEN_BY_ANOTHER] = "taken-by-another", [FAULT_NOT_HELD] = "not-held"};
-    FILE *file = NULL;
-    for (size_t i = 0; i < h->locks.count; i++) {
-        const struct lock *lock = &h->locks.locks[i];
-        if (!lock->is_used || !lock->fault)
-            continue;
-        file = file ? file : created(path);
-        fprintf(file, "%s %s\n", lock->name, reasons[lock->fault]);
-    }
-    if (file)
-        closed(file, path);
+    if (!has_faults(h) && !h->absent_count)
+        return;
+    FILE *file = created(path);
+    write_faults(file, h);
+    write_absent(file, h);
+    closed(file, path);
 }
 
 void write_history(const char *folder, struct history *h, uint32_t number) {

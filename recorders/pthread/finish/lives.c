@@ -28,6 +28,7 @@ static struct life *lives;
 static uint32_t life_count, all_count; /* starts and joins, and threads that weren't seen to be started, which are numbered after them */
 static struct number *numbers;
 static uint64_t number_room;
+static uint32_t *owners; /* of the recorded threads: which thread each is, or UNKNOWN */
 
 static const struct raw_life *raw_of(uint32_t life) { return part_of(arena, RAW_LIVES, life); }
 
@@ -103,6 +104,7 @@ static int by_known(const void *a, const void *b) {
 static void take_trace(uint32_t n) {
     const struct raw_thread *t = thread_numbered(n);
     uint32_t trace = t->source ? 0 : arena->traces[n], thread = trace && t->process ? thread_at(t->process, t->self, t->known) : UNKNOWN;
+    owners[n] = thread;
     if (thread)
         lives[thread].trace = lives[thread].trace || stands_for_others(trace) ? SEVERAL : trace;
 }
@@ -126,7 +128,9 @@ static void take_all(void) {
 /* A thread is called as its trace, and one without a trace by a number of its own. */
 static void tell_thread(FILE *file, uint32_t thread, uint64_t before) {
     uint32_t trace = lives[thread].trace;
-    if (trace && trace != SEVERAL)
+    if (thread == UNKNOWN)
+        fputs("unknown", file);
+    else if (trace && trace != SEVERAL)
         fprintf(file, "task-%04u", trace);
     else
         fprintf(file, "other-%lu", (unsigned long)(before + thread));
@@ -134,21 +138,45 @@ static void tell_thread(FILE *file, uint32_t thread, uint64_t before) {
 
 static const char *const verbs[] = {[LIFE_START] = " starts ", [LIFE_JOIN] = " joins ", [LIFE_REAP] = " reaps "};
 
-static void write_life(FILE *file, uint32_t number, uint64_t before) {
+/* That a thread was started is said also if it isn't certain by which. */
+static bool is_told(uint32_t number) {
     const struct life *l = &lives[number];
-    if (!l->by || !l->of)
-        return;
-    tell_thread(file, l->by, before);
-    fputs(verbs[raw_of(number)->kind], file);
-    tell_thread(file, l->of, before);
+    return l->of && (l->by || raw_of(number)->kind == LIFE_START);
+}
+
+/* Ends the line with how the thread was started that has the number of this start or join. */
+static void end_line(FILE *file, uint32_t number) {
+    bool is_start = number && number <= life_count && raw_of(number)->kind == LIFE_START;
+    uint32_t way = is_start ? way_of_start(arena, raw_of(number)->class) : 0;
+    if (way)
+        fprintf(file, " %u", way);
     putc('\n', file);
 }
 
-static bool has_joins(void) {
-    for (uint32_t number = 1; number <= life_count; number++)
-        if (raw_of(number)->kind > LIFE_START)
-            return true;
-    return false;
+static void write_life(FILE *file, uint32_t number, uint64_t before) {
+    tell_thread(file, lives[number].by, before);
+    fputs(verbs[raw_of(number)->kind], file);
+    tell_thread(file, lives[number].of, before);
+    end_line(file, number);
+}
+
+/* Whether it is told of a thread with a trace that it was started; nobody has started the one that a process began with. */
+static bool is_start_told(uint32_t n, uint32_t trace) {
+    const struct raw_thread *t = thread_numbered(n);
+    const struct raw_process *process = part_of(arena, RAW_PROCESSES, t->process);
+    bool is_first = process && process->first == t->self, is_seen = owners[n] && owners[n] <= life_count && lives[owners[n]].trace == trace;
+    return is_first || is_seen;
+}
+
+/* The other threads with a trace, so that each has a line. When they were started isn't known: these lines come first. */
+static void write_other_starts(FILE *file) {
+    for (uint32_t n = 1; n <= count_of(arena, RAW_THREADS); n++) {
+        uint32_t trace = thread_numbered(n)->source ? 0 : arena->traces[n];
+        if (!trace || is_start_told(n, trace))
+            continue;
+        fprintf(file, "unknown starts task-%04u", trace);
+        end_line(file, owners[n]);
+    }
 }
 
 static void begin_arena(struct arena *a) {
@@ -159,25 +187,37 @@ static void begin_arena(struct arena *a) {
         number_room *= 2;
     lives = checked(calloc(most, sizeof *lives));
     numbers = checked(calloc(number_room, sizeof *numbers));
+    owners = checked(calloc(count_of(a, RAW_THREADS) + 1, sizeof *owners));
 }
 
-/* An arena in which there was no room for all of them says nothing. */
+static void write_lives_of(FILE *file, struct arena *a, uint64_t before) {
+    begin_arena(a);
+    take_all();
+    write_other_starts(file);
+    for (uint32_t number = 1; number <= life_count; number++)
+        if (is_told(number))
+            write_life(file, number, before);
+    free(lives);
+    free(numbers);
+    free(owners);
+}
+
+static bool have_room(void) {
+    for (size_t i = 0; i < arena_count; i++)
+        if (arenas[i].raw->regions[RAW_LIVES].refused)
+            return false;
+    return true;
+}
+
+/* An empty file says that no thread was started, and none that this isn't known: there was no room for all starts and joins. */
 void write_lives(const char *folder) {
     char path[4300];
-    FILE *file = NULL;
     uint64_t before = 0;
     snprintf(path, sizeof path, "%s/lives", folder);
-    for (size_t i = 0; i < arena_count; i++) {
-        begin_arena(&arenas[i]);
-        if (has_joins() && !arenas[i].raw->regions[RAW_LIVES].refused) {
-            file = file ? file : created(path);
-            take_all();
-            for (uint32_t number = 1; number <= life_count; number++)
-                write_life(file, number, before);
-            before += all_count;
-        }
-        free(lives);
-        free(numbers);
+    FILE *file = have_room() ? created(path) : NULL;
+    for (size_t i = 0; file && i < arena_count; i++) {
+        write_lives_of(file, &arenas[i], before);
+        before += all_count;
     }
     if (file)
         closed(file, path);

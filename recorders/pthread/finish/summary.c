@@ -173,7 +173,7 @@ static void write_started(FILE *file) {
 static void write_loaded(FILE *file) {
     const char *before = "";
     for (size_t i = 0; i < module_count; i++) {
-        if (modules[i].path[0] != '/' || strchr(modules[i].path, '\n'))
+        if (!is_loaded_file(&modules[i]))
             continue;
         fputs(before, file);
         write_quoted(file, modules[i].path, SIZE_MAX);

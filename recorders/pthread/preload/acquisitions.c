@@ -107,22 +107,14 @@ __attribute__((noinline)) bool add_entries(struct thread *t) {
    nested, since it may be found to be no lock. The program may have said something of the lock, or that it isn't to be recorded. The call is
    among the thread's already, and the lock isn't held yet. */
 uint32_t object_to_hold(struct thread *t, uintptr_t lock, uint8_t *mode, enum kind kind, struct call call) {
-    bool is_first = t->depth && t->own_piece_count && !lock_object(lock);
     uint32_t object = LIKELY(t->depth < RAW_HELD) && has_entry_left(t) ? object_of_lock(lock, call) : 0;
-    if (UNLIKELY(is_first && object))
-        note_if_own(t, lock, handed_on(t) - 1);
     if (UNLIKELY(is_anything_said && object)) {
         uint8_t said = *mode; /* so that the mode itself needn't lie in memory */
         object = object_as_said(lock, object, &said, kind, call);
         *mode = said;
     }
-    bool is_new = object && comes_to_new(lock, t->number, handed_on(t) - 1), waits = raw_plain(*mode) < MODE_TRY_WRITE;
-    if (waits && is_new)
-        *mode |= RAW_NEW;
-    else if (waits && UNLIKELY(t->made_at == handed_on(t) - 1) && object && is_under_new(t, lock, handed_on(t) - 1))
-        *mode |= RAW_UNDER_NEW;
-    if (!t->depth)
-        *mode &= (uint8_t)(t->is_started ? ~RAW_NEW : ~RAW_WEAK);
+    if (!t->depth && !t->is_started)
+        *mode &= (uint8_t)~RAW_WEAK;
     return UNLIKELY(kind == KIND_COUNTED && object) ? apart(lock, object) : object;
 }
 
@@ -178,7 +170,6 @@ __attribute__((noinline)) static bool take_again(struct thread *t, uint32_t held
     bool is_same = is_same_hold(h, mode, kind);
     if (is_same) {
         h->depth++;
-        t->handed_more--; /* as if that was no call: the lock is held as before */
         end_nesting(h->lock);
     } else
         end_stale(t, h->lock, mode, caller);
@@ -250,7 +241,7 @@ static void write_step(struct step *s, const struct thread *t, uintptr_t from, c
 static void note_step(struct thread *t, uintptr_t from, uintptr_t caller) {
     const struct held *h = &(&t->entries[t->depth] - 1)->held;
     uint64_t word;
-    if (h->record < t->fresh_end || !h->is_written || h->kind == KIND_COUNTED || h->weak & RAW_NEW)
+    if (h->record < t->fresh_end || !h->is_written || h->kind == KIND_COUNTED)
         return;
     struct step *s = place_of_step(t, step_key(hash_of(t, t->depth - 1), h->lock, from));
     if (!s || *looks_left_at(raw_object(h->what[BY_CLASSES])) || !is_lasting(object_of(h), t->depth > 1) || !are_single(t))
@@ -272,8 +263,6 @@ static void take_lock(struct thread *t, uintptr_t lock, uint8_t mode, enum kind 
         leave_unnoted(t, lock);
         return;
     }
-    if (UNLIKELY(t->made_at == handed_on(t) - 1))
-        note_if_own_made(t, lock, handed_on(t) - 1);
     push_held(t, lock, object, mode, kind, call, false);
     put_taking_of(t, &t->entries[t->depth - 1].held, is_timed, call.caller);
     note_step(t, step_from(call.caller, mode, kind), call.caller);
@@ -300,8 +289,6 @@ void tried(uintptr_t lock, bool has_failed, struct call call) {
         return;
     if (t->failed == lock && t->failed_under && !is_ignored(lock))
         t->raw->left_out.retried++;
-    if (has_failed)
-        comes_to_new(lock, t->number, handed_on(t));
     t->failed = has_failed ? lock : 0;
     t->failed_under = has_failed ? t->depth : 0;
     leave();

@@ -87,8 +87,7 @@ static inline void found_done(uintptr_t control, struct call call) {
     releasing(control, call);
 }
 
-/* The routine may throw. (That of the unwinder takes no lock: if it runs as a thread ends by pthread_exit, who joins that may know that it takes
-   none any more.) */
+/* The routine may throw. (That of the unwinder takes no lock.) */
 #define ONCE(name, answer, type)                                                                                       \
     EXPORT answer name(type *control, void (*routine)(void)) {                                                         \
         begin_once();                                                                                                  \
@@ -361,25 +360,6 @@ EXPORT int sem_destroy(sem_t *lock) {
     return answer;
 }
 
-/* One that isn't recorded may be waited for too. */
-static bool takes_at_once(sem_t *lock) {
-    int saved = errno;
-    pthread_testcancel(); /* as the call itself does */
-    bool is_taken = REAL(sem_trywait)(lock) == 0;
-    errno = saved;
-    return is_taken;
-}
-
-static bool begin_pause(void) {
-    note_pause();
-    return true;
-}
-
-static void end_pause(bool *is_begun) {
-    if (*is_begun)
-        note_pause();
-}
-
 /* In the history a post is a message to one of those that wait. */
 static int got(const sem_t *lock, int answer, struct call call) {
     if (answer == 0)
@@ -390,14 +370,8 @@ static int got(const sem_t *lock, int answer, struct call call) {
 /* Tries first, as with a mutex. A wait that a signal ends is withdrawn. */
 #define WAITING(name, mode, is_sound, parameters, arguments)                                                           \
     EXPORT int name parameters {                                                                                       \
-        if (!SEMAPHORES || !(is_sound) || is_left_out(lock)) {                                                         \
-            if (!is_recording() || !(is_sound))                                                                        \
-                return REAL(name) arguments;                                                                           \
-            if (takes_at_once(lock))                                                                                   \
-                return got(lock, 0, HERE);                                                                             \
-            bool is_begun __attribute__((cleanup(end_pause))) = begin_pause();                                         \
+        if (!SEMAPHORES || !(is_sound) || is_left_out(lock))                                                           \
             return got(lock, REAL(name) arguments, HERE);                                                              \
-        }                                                                                                              \
         int saved = errno, answer = REAL(sem_trywait)(lock);                                                           \
         if (answer == 0) {                                                                                             \
             took(lock, mode, HERE);                                                                                    \
@@ -426,7 +400,6 @@ EXPORT int sem_trywait(sem_t *lock) {
 }
 
 EXPORT int sem_post(sem_t *lock) {
-    note_handing_on();
     if (SEMAPHORES)
         posting(lock, HERE);
     NOTE_MESSAGE(STEP_POST, (uintptr_t)lock, false, HERE);
@@ -446,14 +419,10 @@ EXPORT int pthread_barrier_init(pthread_barrier_t *restrict barrier, const pthre
     return answer;
 }
 
-/* Who waits at a barrier hands on what it has made to those that it lets pass. */
 EXPORT int pthread_barrier_wait(pthread_barrier_t *barrier) {
-    note_handing_on();
-    note_pause();
     NOTE_MESSAGE(STEP_ARRIVE, (uintptr_t)barrier, false, HERE);
     int answer = REAL(pthread_barrier_wait)(barrier);
     NOTE_MESSAGE(STEP_LEAVE, (uintptr_t)barrier, true, HERE);
-    note_pause();
     return answer;
 }
 

@@ -347,6 +347,8 @@ void *map_common(const char *name, size_t bytes) {
 
 static uint32_t process_id(void) { return (uint32_t)SYSTEM(getpid); }
 
+FOUND_WHEN_LOADED(this_thread, pthread_self);
+
 void say_refused(void) {
     char path[MOST_OF_FOLDER + 64];
     put_file_name(path, folder_of_libraries, process_id(), 0);
@@ -360,6 +362,7 @@ static void note_process(uint32_t id, uint32_t parent) {
         return;
     struct raw_process *process = part_of(RAW_PROCESSES, own_process);
     process->parent = parent;
+    process->first = (uint64_t)this_thread();
     STORE(&process->id, id);
 }
 

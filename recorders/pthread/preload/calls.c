@@ -236,28 +236,23 @@ struct waiting {
     struct call call;
     bool is_released;
     uint32_t subclass; /* as which it is held */
-    struct hearing hearing;
 };
 
 static void begin_wait(struct waiting *w, bool is_sound) {
-    note_pause();
     NOTE_MESSAGE(STEP_WAIT, w->condition, false, w->call);
     w->is_released = is_sound && is_held_once(w->lock);
     if (w->is_released) {
         w->subclass = subclass_held(w->lock);
-        w->hearing = begin_hearing(w->lock);
         releasing(w->lock, w->call);
     }
 }
 
 static void end_wait(void *value) {
     struct waiting *w = value;
-    note_pause();
     if (w->is_released) {
         if (UNLIKELY(w->subclass))
             say_subclass(w->lock, w->subclass);
         acquired(w->lock, MODE_WRITE, KIND_MUTEX, w->call);
-        end_hearing(&w->hearing, w->lock, w->condition);
     }
 }
 
@@ -283,14 +278,13 @@ WAITING(pthread_cond_clockwait, IS_CLOCK(clock) && is_time(until), (pthread_cond
 WAITING(cnd_wait, true, (cnd_t * condition, mtx_t *lock), (condition, lock))
 WAITING(cnd_timedwait, is_time(until), (cnd_t *restrict condition, mtx_t *restrict lock, const struct timespec *restrict until), (condition, lock, until))
 
-/* ---- Signalling a condition: so a thread may say that it is done, to one that waits for that. */
+/* ---- Signalling a condition: a message to those that wait for it. */
 
 #define SIGNALLING(name, type)                                                                                         \
     EXPORT int name(type *condition) {                                                                                 \
         __typeof__(&name) real = READY(name);                                                                          \
         if (!real)                                                                                                     \
             return 0;                                                                                                  \
-        note_signal((uintptr_t)condition, HERE);                                                                       \
         NOTE_MESSAGE(STEP_SIGNAL, (uintptr_t)condition, false, HERE);                                                  \
         return real(condition);                                                                                        \
     }
@@ -307,7 +301,6 @@ EXPORT int pthread_create(pthread_t *thread, const pthread_attr_t *how, void *(*
         return EAGAIN;
     if (UNLIKELY(is_for_libraries))
         comes_from_library(HERE);
-    note_handing_on();
     if (is_recording())
         note_frames(HERE);
     struct starting starting = begin_start(HERE);

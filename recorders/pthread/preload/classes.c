@@ -450,7 +450,7 @@ void forget_own_lock(uintptr_t lock) {
 }
 
 /* The memory that the lock is in is marked, so that it is forgotten with that. */
-bool know_by_place(uintptr_t lock, struct call call) {
+void know_by_place(uintptr_t lock, struct call call) {
     struct memory memory;
     uint32_t class = class_that_stays(lock, call), place = class ? 0 : place_here(call);
     drop_lock(lock);
@@ -458,8 +458,7 @@ bool know_by_place(uintptr_t lock, struct call call) {
     if (place)
         class = known_class((struct raw_class){.kind = CLASS_INIT, .place = place});
     look_once(class, lock, &memory, call);
-    uint32_t object = new_object(lock, class, INITIALISED);
-    return object && ordinal_of(object) != RAW_SHARED;
+    new_object(lock, class, INITIALISED);
 }
 
 /* What the program says the lock is, which is more than what else is known of it. */

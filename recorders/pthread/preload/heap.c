@@ -204,7 +204,6 @@ static inline uint64_t mark_of(uintptr_t address, uint64_t about) {
 
 static inline void put_from(void *piece, size_t size, uint32_t place) {
     put_anywhere((uintptr_t)piece, (uint64_t)size << SIZE_SHIFT | place);
-    note_own_piece((uintptr_t)piece);
 }
 
 static inline void put_noted(void *piece, size_t size, const struct asked *asked) {

@@ -24,7 +24,6 @@ struct held {
     bool is_written; /* there is a record of it */
     bool is_pending; /* the thread still waits for it */
     uint8_t weak;    /* what of RAW_WEAK its record has besides */
-    uint32_t since;  /* as in struct heard; 0 if the thread hasn't waited for a condition with the lock since it took it */
     uint64_t record; /* the number of its record */
     uint64_t fresh_before; /* where the last record of something new ended then */
     uint64_t taken_at;     /* the step of the history that has taken it so; 0 of none */
@@ -75,16 +74,6 @@ struct step {
 #define OWN_LOCKS 16
 #define FIRST_HELD 8
 
-/* A piece of memory that the thread has allocated, and what handed_on was then. */
-#define OWN_PIECES 16
-struct own_piece {
-    uintptr_t address;
-    uint32_t handed_on;
-};
-
-#define OWN_MADE 14
-#define NEVER UINT32_MAX /* what handed_on isn't */
-
 /* A record of a state. */
 #define TURNS 8
 struct turn {
@@ -94,14 +83,6 @@ struct turn {
 };
 
 #define MOST_USED 8 /* (as many as fill a line of the processor's) */
-
-/* A condition that the thread has waited for with a lock that it still held in between, but for the waits. Moments are those of notices.c. */
-#define MOST_HEARD 4
-struct heard {
-    uintptr_t condition;
-    uint64_t from, to; /* when the first wait for it began, and when the last wait with the lock ended */
-    uint32_t since;    /* tells this hold of the lock from others: the lowest bits of when the first wait with it began */
-};
 
 /* The function of the loader's that a thread is in, or was in when it came last. */
 struct loading {
@@ -147,18 +128,10 @@ struct thread {
     uint64_t *seen;     /* a set of the ways in which a lock was taken under others */
     size_t seen_mask, seen_used;
     uint32_t unnoted; /* so many holds there are without an entry */
-    uint32_t heard_count; /* with those that aren't here any more */
-    struct heard heard[MOST_HEARD]; /* the conditions that it waited for last */
     uint32_t *held_by_trace; /* room for restore_after_jump; NULL until it is needed */
     uintptr_t own_locks[OWN_LOCKS]; /* the last ones that were met first by it, in its frames or among its own variables; 0: none */
     uint32_t own_lock_count; /* so many there were, with those that aren't here any more */
-    struct own_piece own_pieces[OWN_PIECES]; /* the last ones that it allocated with something held */
-    uint32_t own_piece_count;
-    uintptr_t own_made[OWN_MADE];     /* the locks that it initialised with nothing held when handed_on was made_at */
-    uint32_t own_made_count, made_at; /* OWN_MADE + 1 of more than OWN_MADE; made_at is NEVER if there are none */
-    uint32_t own_depth, own_at; /* so many of the oldest locks that are held are such ones, as long as handed_on is that */
     bool is_started;     /* by another thread, which may wait for its end, or by a signal, which has interrupted what may hold something */
-    uint32_t handed_more; /* what handed_on has besides what can be told from its calls */
     struct thread *next;
     struct {
         uintptr_t caller;
@@ -304,19 +277,9 @@ QUICK void end_quick_step(const struct quick_step *step, enum raw_step_form form
 
 extern uint64_t is_memo_off; /* by LOCKDEP_MEMO=off, for tests: what is recorded is the same */
 
-/* It grows whenever other threads may get to know what this one has made, by the locks that it releases and the threads that it starts, and
-   stays as it is while the thread only takes locks and keeps them. */
-QUICK uint32_t handed_on(const struct thread *t) { return (uint32_t)t->raw->calls - t->depth + t->handed_more; }
-
-/* Is done whenever something of this may have changed. A lock that was just initialised, if nothing was held, goes the long way when it is taken. */
+/* Is done whenever something of this may have changed. */
 QUICK void note_unsettled(struct thread *t) {
-    t->is_unsettled = t->loading.lock | t->pending.frame | t->failed_under | t->is_turned | is_memo_off | (t->made_at == handed_on(t));
-}
-
-QUICK void note_own_piece(uintptr_t address) {
-    struct thread *t = self.thread;
-    if (UNLIKELY(t && t->depth))
-        t->own_pieces[t->own_piece_count++ % OWN_PIECES] = (struct own_piece){address, handed_on(t)};
+    t->is_unsettled = t->loading.lock | t->pending.frame | t->failed_under | t->is_turned | is_memo_off;
 }
 
 /* ---- Steps. */
@@ -362,12 +325,11 @@ QUICK bool step_on(struct thread *t, uintptr_t lock, uintptr_t from) {
     return true;
 }
 
-/* Releases the newest lock if nothing new was done since it was taken: all records since then are taken back. (One that is new, or was taken under
-   new ones alone, goes the long way.) */
+/* Releases the newest lock if nothing new was done since it was taken: all records since then are taken back. */
 QUICK bool step_back(struct thread *t, uintptr_t lock) {
     const struct entry *e = &t->entries[t->depth] - 1;
     uint64_t start = e->level.start;
-    if (t->is_unsettled || e->held.lock != lock || e->held.depth | (e->held.weak & RAW_NEW) || start < t->fresh_end ||
+    if (t->is_unsettled || e->held.lock != lock || e->held.depth || start < t->fresh_end ||
         e->level.hash != e[-1].links.hash || t->era != LOAD(era) || memcmp(e->held.what, e->links.what, sizeof e->held.what) != 0)
         return false;
     struct quick_step step;
@@ -403,10 +365,6 @@ QUICK bool released_again(uintptr_t lock, struct call call) {
     go_outside();
     return is_done;
 }
-
-/* ---- notices.c */
-
-void end_notices(struct thread *t);
 
 /* ---- library.c */
 

@@ -28,6 +28,11 @@ static void note_life(uint32_t number, enum life_kind kind, pthread_t thread, ui
     STORE(&life->kind, kind);
 }
 
+static void note_class_of_start(uint32_t number, uint32_t class) {
+    if (number)
+        STORE(&((struct raw_life *)part_of(RAW_LIVES, number))->class, class);
+}
+
 static uint32_t so_far(enum raw_kind kind) { return is_recording() ? LOAD(&arena->regions[kind].used) : 0; }
 
 /* A start comes now. */
@@ -86,7 +91,9 @@ void note_start(pthread_t thread, uintptr_t run, struct starting starting, struc
     if (!is_recording() || !begin_inside(call))
         return;
     int saved = errno;
-    note(thread, CLASS, class_of_threads(run, call));
+    uint32_t class = class_of_threads(run, call);
+    note(thread, CLASS, class);
+    note_class_of_start(starting.life, class);
     note(thread, BEFORE, starting.traces);
     note(thread, OBJECT, 0);
     struct raw_thread *part = part_of_life(thread);
@@ -151,17 +158,6 @@ static bool begin_join(pthread_t thread, uint8_t weak, struct call call) {
     return is_pending;
 }
 
-static uint8_t mode_of_last(const struct raw_thread *part) { return part->last >> RAW_OBJECT_BITS & (uint8_t)~RAW_IN_ORDER; }
-
-/* The thread has ended, and had locks. Only a notice that it gave makes the join weak: how long the thread lives says nothing about its locks. After
-   the notice it may have taken one more lock: who joins it waits for that one too, and so it is taken and given back here. */
-static void pass_thread(pthread_t thread, const struct raw_thread *part, uint8_t weak, struct call call) {
-    bool takes_one = false, is_done = has_given_notice(part, &takes_one);
-    pass_end((uintptr_t)thread, object_of(thread), MODE_WRITE | weak | (is_done ? RAW_ENDED : 0), call);
-    if (takes_one)
-        pass_end(part->last_lock, raw_object(part->last), mode_of_last(part) | weak, call);
-}
-
 /* In the history who has joined a thread has taken it, and given it back. */
 static void put_joined(pthread_t thread, uint8_t mode, int error, struct call call) {
     if (!error)
@@ -178,10 +174,7 @@ static void end_join(pthread_t thread, uint8_t weak, bool is_pending, bool has_e
     const struct raw_thread *part = part_of_life(thread);
     bool is_recorded = part && LOAD(&part->count) && join_can_matter();
     if ((is_recorded || has_trace()) && enter_recorder(call)) {
-        if (is_recorded)
-            pass_thread(thread, part, weak, call);
-        else
-            pass_end((uintptr_t)thread, 0, MODE_WRITE | weak, call);
+        pass_end((uintptr_t)thread, is_recorded ? object_of(thread) : 0, MODE_WRITE | weak, call);
         end_inside();
     }
     if (!is_recorded)
@@ -222,7 +215,6 @@ EXPORT int pthread_tryjoin_np(pthread_t thread, void **value) {
 EXPORT int thrd_create(thrd_t *thread, thrd_start_t run, void *with) {
     if (UNLIKELY(is_for_libraries))
         comes_from_library(HERE);
-    note_handing_on();
     if (is_recording())
         note_frames(HERE);
     struct starting starting = begin_start(HERE);

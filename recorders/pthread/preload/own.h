@@ -152,9 +152,6 @@ uint32_t lock_object(uintptr_t lock); /* the object of a lock, or 0 */
 const uint64_t *lock_slot(uintptr_t lock, uint32_t object, uint64_t *word); /* what says so, and with which word; NULL: it isn't */
 uint32_t put_lock(uintptr_t lock, uint32_t object); /* the object that it is then, or 0 if there is no room */
 uint32_t add_lock(uintptr_t lock, uint32_t object); /* the same of a lock that isn't there */
-void note_new(uintptr_t lock, uint32_t thread, uint32_t handed_on); /* it was made by a thread that had handed on so much (held.h) */
-bool comes_to_new(uintptr_t lock, uint32_t thread, uint32_t handed_on); /* whether it is its maker that comes, and nothing was handed on since:
-                                                                           else it isn't new any more */
 void drop_lock(uintptr_t lock);
 void end_lock(uintptr_t lock); /* the same, and what was said of it has ended too */
 void drop_locks_between(uintptr_t from, uintptr_t to);
@@ -353,7 +350,7 @@ const uint8_t *looks_left_at(uint32_t class);
 bool is_mapped_place(uint32_t place);
 void note_size(uint32_t place, uint64_t bytes);
 void look_at_taker(uint32_t class, uintptr_t lock, struct call call);
-bool know_by_place(uintptr_t lock, struct call call); /* whether it is a lock of this process alone */
+void know_by_place(uintptr_t lock, struct call call);
 void know_by_text(uintptr_t lock, enum class_kind kind, uint32_t text, struct call call);
 uint32_t reason_to_ignore(uint32_t object);
 uint32_t class_of_threads(uintptr_t run, struct call call); /* that run a function */
@@ -416,7 +413,6 @@ void turned(struct call call); /* a signal was blocked or unblocked, or has got 
 
 /* ---- releases.c */
 
-void note_handing_on(void); /* by what isn't seen otherwise: what this thread has made isn't new any more */
 void releasing(uintptr_t lock, struct call call);
 bool releasing_own(uintptr_t lock, struct call call);
 void released_unseen(uintptr_t lock, struct call call);
@@ -438,10 +434,9 @@ bool begin_pending_end(uintptr_t thread, uint32_t object, uint8_t mode, struct c
 void pass_end(uintptr_t thread, uint32_t object, uint8_t mode, struct call call); /* inside the recorder */
 void pass_lock(uintptr_t lock, uint8_t mode, enum kind kind, struct call call); /* inside the recorder: it is taken and given back */
 void end_own_pending(struct call call);
-void note_pause(void); /* this thread begins to wait for something, or doesn't wait for it any more */
 void note_waits_at_exit(void);
 
-/* ---- new_locks.c */
+/* ---- initialised.c */
 
 void initialised(uintptr_t lock, struct call call);
 void destroyed(uintptr_t lock, struct call call);
@@ -510,18 +505,6 @@ void leave_for(const ucontext_t *to, struct call call); /* the thread goes on th
 
 void use_allocator(struct call call);
 void use_allocator_in_fork(struct call call);
-
-/* ---- notices.c */
-
-#define OF_ONE_LOCK 2 /* so many calls are an acquisition and a release */
-struct hearing { /* a wait for a condition: when it began, and with which hold of the lock, as in struct heard */
-    uint64_t from;
-    uint32_t since;
-};
-void note_signal(uintptr_t condition, struct call call);
-struct hearing begin_hearing(uintptr_t lock);
-void end_hearing(const struct hearing *hearing, uintptr_t lock, uintptr_t condition);
-bool has_given_notice(const struct raw_thread *raw, bool *takes_one);
 
 /* ---- joins.c */
 

@@ -22,22 +22,7 @@ static enum raw_waits waits_by(uint8_t mode) {
     return LOAD(&is_exiting) ? RAW_WAITS_AT_EXIT : RAW_WAITS;
 }
 
-/* The part of the thread's own code, on which handlers may run. */
-static struct raw_thread *own_raw(void) {
-    for (uint32_t level = 0; level <= level_of_runs(); level++)
-        if (*thread_at_level(level))
-            return (*thread_at_level(level))->raw;
-    return NULL;
-}
-
-void note_pause(void) {
-    struct raw_thread *raw = own_raw();
-    if (raw)
-        __atomic_fetch_add(&raw->pauses, 1, __ATOMIC_RELEASE);
-}
-
 static void push_pending(struct thread *t, uintptr_t lock, uint32_t object, uint8_t mode, enum kind kind, struct call call) {
-    note_pause();
     push_held(t, lock, object, mode, kind, call, true);
     if (!t->pending.frame)
         t->pending = call;
@@ -80,7 +65,7 @@ bool begin_pending_end(uintptr_t thread, uint32_t object, uint8_t mode, struct c
     return true;
 }
 
-/* A thread that has ended is taken and given back, unless its object is 0; or a lock that it took meanwhile, of which this one isn't the taker. */
+/* A thread that has ended is taken and given back, unless its object is 0. */
 void pass_end(uintptr_t thread, uint32_t object, uint8_t mode, struct call call) {
     struct thread *t = self.thread;
     if (!has_room_for_end(t, call) || !object)
@@ -114,8 +99,6 @@ static void withdraw(struct thread *t, uint32_t i, uintptr_t caller) {
 }
 
 static void end_waiting(struct thread *t) {
-    if (t->pending.frame)
-        note_pause();
     t->pending.frame = 0;
     STORE(&t->raw->waits, RAW_WAITS_NOT);
 }

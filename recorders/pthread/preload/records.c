@@ -44,15 +44,6 @@ void pop_links(struct thread *t, const struct held *gone) {
     rehash(t, first, t->depth - 1);
 }
 
-/* What a thread has taken last with nothing held stays in its first entry. */
-void note_last(struct thread *t) {
-    const struct held *last = &t->entries[0].held;
-    if (t->depth || last->lock == NO_LOCK || raw_plain(mode_of(last)) >= MODE_TRY_WRITE)
-        return;
-    t->raw->last = what_written(last);
-    t->raw->last_lock = last->lock;
-}
-
 /* The newest held entry of a lock, or RAW_HELD. */
 uint32_t find_held(const struct thread *t, uintptr_t lock) {
     for (uint32_t i = t->depth; i-- > 0;)

@@ -36,7 +36,6 @@ static inline void leave(void) { end_inside(); }
 bool change_chunk(struct thread *t);
 uint32_t newest_of(const struct thread *t, enum reader reader, uint32_t number);
 void pop_links(struct thread *t, const struct held *gone);
-void note_last(struct thread *t);
 bool is_seen(const struct thread *t, uint64_t way);
 uint64_t way_at(const struct thread *t, uint32_t depth);
 bool see(struct thread *t, uint64_t way);
@@ -140,11 +139,5 @@ static inline bool has_entry_left(struct thread *t) { return LIKELY(t->depth < t
 
 void withdraw_all(struct thread *t, uintptr_t caller);
 void end_left_pending(struct thread *t, struct call call);
-
-/* ---- new_locks.c */
-
-void note_if_own(struct thread *t, uintptr_t lock, uint32_t handed_on);
-void note_if_own_made(struct thread *t, uintptr_t lock, uint32_t handed_on);
-bool is_under_new(const struct thread *t, uintptr_t lock, uint32_t handed_on);
 
 #endif

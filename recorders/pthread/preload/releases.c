@@ -85,19 +85,6 @@ __attribute__((noinline)) void end_what_is_left(struct thread *t, struct call ca
         end_left_pending(t, call);
 }
 
-void note_handing_on(void) {
-    if (self.thread)
-        self.thread->handed_more++;
-}
-
-/* A release hands on what was made before, unless nobody else can have come to the lock: it was new when it was taken. Then what the release
-   adds to handed_on, by the call and by the hold that ends, is taken back. */
-static void give_back(struct thread *t, uint32_t i, uintptr_t caller) {
-    if (UNLIKELY(raw_is_new_itself(t->entries[i].held.weak)))
-        t->handed_more -= 2;
-    release_at(t, i, caller);
-}
-
 /* Whether this thread was seen to take the lock, or ignores it. */
 static bool release_own(struct thread *t, uintptr_t lock, struct call call) {
     settle(t, call);
@@ -107,12 +94,11 @@ static bool release_own(struct thread *t, uintptr_t lock, struct call call) {
     t->raw->calls++;
     if (UNLIKELY(i == RAW_HELD))
         t->unnoted--;
-    else if (t->entries[i].held.depth) {
+    else if (t->entries[i].held.depth)
         t->entries[i].held.depth--;
-        t->handed_more--;
-    } else {
+    else {
         put_end_of_hold(&t->entries[i].held);
-        give_back(t, i, call.caller);
+        release_at(t, i, call.caller);
     }
     return true;
 }

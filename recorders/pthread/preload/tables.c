@@ -61,8 +61,7 @@ void each_name(struct names *names, void (*visit)(uint32_t *value)) {
 
 /* ---- Locks: from an address to an object, in one word, so that a slot can be emptied and used again. An address is that of at
    least four bytes, and has 47 bits. Its 39 bits from BLOCK_BITS on are that of a block of memory, which chooses the line; the
-   lowest five of them are known by the line, and the slot has the 40 other bits of the address, a bit that says that the lock is new, and
-   an object of 23 bits, of which there are fewer than that. */
+   lowest five of them are known by the line, and the slot has the 40 other bits of the address, and an object of 24 bits. */
 
 #define LOCK_WAYS 8 /* the bytes of a line of the processor's */
 #define LOCK_LEVELS 5
@@ -71,7 +70,6 @@ void each_name(struct names *names, void (*visit)(uint32_t *value)) {
 #define IN_BLOCK_BITS (BLOCK_BITS - 2)
 #define BLOCK_MASK ((UINT64_C(1) << (47 - BLOCK_BITS)) - 1)
 #define OBJECT_BITS 24
-#define IS_NEW (UINT64_C(1) << (OBJECT_BITS - 1))
 
 static const uint32_t lock_bits[LOCK_LEVELS] = {FEWEST_BITS, 13, 17, 21, 13};
 static uint64_t *lock_levels[LOCK_LEVELS];
@@ -109,7 +107,7 @@ static uint64_t *lock_line(uint64_t *slots, int level, uintptr_t lock) {
 
 /* No lock has key 0, so an empty slot is of none. */
 static inline bool is_of(uint64_t word, uint64_t key) { return word >> OBJECT_BITS == key; }
-static inline uint32_t object_in(uint64_t word) { return (uint32_t)(word & (IS_NEW - 1)); }
+static inline uint32_t object_in(uint64_t word) { return (uint32_t)(word & ((UINT64_C(1) << OBJECT_BITS) - 1)); }
 
 static int lock_main;
 static uint64_t lock_overflows;
@@ -205,7 +203,7 @@ uint32_t put_lock(uintptr_t lock, uint32_t object) {
     uint64_t *slot = find_lock(lock);
     mark_part(lock);
     if (slot)
-        STORE(slot, word_with(lock, object) | (LOAD(slot) & IS_NEW));
+        STORE(slot, word_with(lock, object));
     else if (!fill_lock(lock, object))
         return 0;
     return lock_object(lock);
@@ -214,35 +212,6 @@ uint32_t put_lock(uintptr_t lock, uint32_t object) {
 uint32_t add_lock(uintptr_t lock, uint32_t object) {
     mark_part(lock);
     return fill_lock(lock, object) ? lock_object(lock) : 0;
-}
-
-/* ---- Locks that are new: of each who has made it, and what it had handed on then. */
-
-static struct names makers, makings;
-
-void note_new(uintptr_t lock, uint32_t thread, uint32_t handed_on) {
-    uint64_t *slot = find_lock(lock), word = slot ? LOAD(slot) : 0;
-    uint32_t *maker = word ? added_slot(&makers, lock) : NULL, *making = maker ? added_slot(&makings, lock) : NULL;
-    if (!making)
-        return;
-    STORE(making, handed_on);
-    STORE(maker, thread);
-    SWAP(slot, &word, word | IS_NEW);
-}
-
-static bool is_made(uintptr_t lock, uint32_t thread, uint32_t handed_on) {
-    const uint32_t *maker = name_slot(&makers, lock), *making = name_slot(&makings, lock);
-    return maker && making && LOAD(maker) == thread && LOAD(making) == handed_on;
-}
-
-bool comes_to_new(uintptr_t lock, uint32_t thread, uint32_t handed_on) {
-    uint64_t *slot = find_lock(lock);
-    if (LIKELY(!slot || !(LOAD(slot) & IS_NEW)))
-        return false;
-    bool is_new = is_made(lock, thread, handed_on);
-    if (!is_new)
-        __atomic_fetch_and(slot, ~IS_NEW, __ATOMIC_ACQ_REL);
-    return is_new;
 }
 
 /* Unless somebody else emptied it meanwhile. */

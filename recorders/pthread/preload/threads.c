@@ -68,7 +68,6 @@ static bool begin_trace(struct thread *t, uint32_t source) {
     uint32_t number = take_part(RAW_THREADS);
     if (!number)
         return false;
-    t->entries[0].held.lock = NO_LOCK;
     begin_raw(t, number, source);
     begin_in_no_state(t, source);
     for (int i = 0; i < RAW_CHUNKS; i++) {
@@ -85,12 +84,7 @@ static bool begin_trace(struct thread *t, uint32_t source) {
     t->depth = 0;
     t->failed = 0;
     t->failed_under = 0;
-    t->own_piece_count = 0;
-    t->own_made_count = 0;
-    t->made_at = NEVER;
-    t->own_depth = 0;
     t->is_started = source || !is_first_thread();
-    t->handed_more = 0;
     t->loading.lock = 0;
     t->pending.frame = 0;
     t->unnoted = 0;
@@ -148,8 +142,6 @@ void note_own_lock(uintptr_t lock) {
 static void end_own_thread(struct thread *t) {
     end_loading(t);
     withdraw_all(t, CALLER);
-    note_last(t);
-    end_notices(t);
     forget_own_locks(t);
     self.thread = NULL;
     STORE(&t->raw->ended, 1);
