@@ -27,8 +27,8 @@ ALL = (
         Option("--json", None, "write the rings as JSON", "")]),
     command("chains", "list the acquisitions of a trace", "file", []),
     RECORD,
-    command("confirm", "explain what was found in a recording, and what was seen between single locks", "folder", [
-        Option("--strict", None, "status 1 only for what happened or was seen between locks", ""), Option("--html", FILE, "where the page goes", ""),
+    command("confirm", "explain what was found in a recording, with the verdict of each finding", "folder", [
+        Option("--strict", None, "status 1 only for what happened, is possible or not known", ""), Option("--html", FILE, "where the page goes", ""),
         Option("--sarif", FILE, "write the findings as SARIF", ""), Option("--junit", FILE, "write the findings as JUnit", ""),
         Option("--json", FILE, "write the findings as JSON", "")]),
     GATHER,

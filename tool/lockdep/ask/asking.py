@@ -4,7 +4,7 @@ from __future__ import annotations
 import os
 
 from ..program.checker import BY_CLASSES, BY_LOCKS, REFUSED, Answer, ask
-from ..record.folder import LIVES, OBJECTS, PROVOKED, SIGNALS, WEAK
+from ..record.folder import OBJECTS, PROVOKED, SIGNALS
 from ..record.trace_names import traces_in
 
 TYPE_CHECKING = False
@@ -59,12 +59,19 @@ class Asked:
 
     def read_findings(self) -> list:
         from ..program.findings import Between, findings_of
-        from ..program.kinds import Kind
-        from .verdict import by_importance
+        from ..program.verdicts import Level
+        from ..record import summary
+        from .blocked import blocked_threads
+        from .judging import AtEnd, judge
+        from .verdict import Recorded, by_importance
         findings = findings_of(self.answer.output)
         for finding in findings:
-            finding.between = finding.between or Between(Kind.UNKNOWN, reason=self.reason)
-        self.weigh(findings)
+            finding.between = finding.between or Between(Level.UNKNOWN, reason=self.reason)
+        if findings:
+            counted = summary.read(self.folder)
+            stood = tuple(blocked.orders for blocked in (blocked_threads(self, counted) if counted else ()))
+            held = frozenset() if self.reason else frozenset(held.event for several in self.ends().values() for held in several)
+            judge(findings, AtEnd(stood, held), self.folder, self.traces, Recorded(self.traces, counted))
         for finding in self.signals.findings if self.signals else ():
             finding.place = finding.number = len(findings) + 1
             findings.append(finding)
@@ -72,18 +79,6 @@ class Asked:
             from .happened import take_happened
             take_happened(findings, self.folder)
         return by_importance(findings)
-
-    def weigh(self, findings: list) -> None:
-        """What the recording says of single acquisitions, and of which thread was joined first, gives findings verdicts of their own."""
-        from ..base.room import room_for
-        if os.path.exists(os.path.join(self.folder, WEAK)):
-            from .weak import weaken
-            with room_for(self.folder) as room:
-                weaken(findings, self.folder, self.traces, room)
-        if not self.reason and os.path.exists(os.path.join(self.folder, LIVES)):
-            from .turns import find_turns
-            with room_for(self.folder) as room:
-                find_turns(findings, self.folder, self.traces, room)
 
 
 def ask_about(folder: str) -> Asked:

@@ -15,9 +15,18 @@ from ..record.threads import called, number_of_thread
 
 TYPE_CHECKING = False
 if TYPE_CHECKING:
-    from .asking import Asked
+    from typing import Protocol
+
+    class Recorded(Protocol):
+        """What was asked about a recording."""
+        folder: str
+        traces: list[str]
+
+        def ends(self) -> dict[str, list[Held]]:
+            """What each trace holds at its end."""
 
 TRY = "t"  # what the mode of a try begins with
+WRITER = "w"
 
 
 @dataclass
@@ -56,6 +65,16 @@ class Blocked:
         return own + [held.key for _, held in self.holders]
 
     @property
+    def orders(self) -> frozenset[tuple[str, str]]:
+        """The orders of a cycle, by the names of single locks: each thread holds what the one before it waits for. Empty if it is none, or if a handler is
+        part of it."""
+        threads = [self.thread] + [thread for thread, _ in self.holders if thread is not self.thread]
+        if not self.is_cycle or any(thread.interrupted_by or not thread.waits for thread in threads):
+            return frozenset()
+        locks = [name_in(thread.waits.key) for thread in threads]
+        return frozenset(zip(locks, locks[1:] + locks[:1]))
+
+    @property
     def events(self) -> list[Event]:
         threads = [self.thread] + [thread for thread, _ in self.holders]
         events = [thread.waits.event for thread in threads if thread.waits]
@@ -66,6 +85,8 @@ class Blocked:
         """Such as `task-0001 waits for m, which task-0002 holds since record 2, and waits for n`."""
         said = "%s waits for %s" % (self.thread.called or self.thread.name, plain_key(self.thread.waits.key))
         for thread, held in self.holders:
+            if thread is self.thread and len(self.holders) == 1:
+                return said + ", which it holds itself since record %d: it stands still" % held.event.record
             said += ", which %s holds since record %d" % (thread.called or thread.name, held.event.record)
             said += " while it waits for %s" % plain_key(thread.waits.key) if thread.waits else ""
             said += ", interrupted by %s" % thread.interrupted_by.name if thread.interrupted_by else ""
@@ -95,8 +116,18 @@ def holder_of(lock: Held, threads: list[Thread], but: Thread) -> tuple[Thread, H
     return next(((thread, held) for thread in threads if thread is not but for held in thread.held if held.key == lock.key), None)
 
 
+def own_hold(thread: Thread) -> Held | None:
+    """What a thread holds itself of what it waits for, so that nobody can give it that."""
+    waits = thread.waits
+    return next((held for held in thread.held if waits and held.key == waits.key and not stands_for_several(name_in(held.key)) and
+                 WRITER in (held.mode.lstrip(TRY), waits.mode)), None)
+
+
 def blocked_of(thread: Thread, threads: list[Thread]) -> Blocked:
     """Follows a thread to who holds what it waits for, or to the handler that it waits for, and on, until nobody is known or a thread comes again."""
+    own = own_hold(thread)
+    if own:
+        return Blocked(thread, [(thread, own)], True)
     blocked, passed, at = Blocked(thread), [thread], thread
     while at.waits:
         holder = holder_of(at.waits, threads, at)
@@ -122,7 +153,7 @@ def each_once(blocked: list[Blocked]) -> list[Blocked]:
     return kept
 
 
-def blocked_threads(asked: Asked, summary: Summary) -> list[Blocked]:
+def blocked_threads(asked: Recorded, summary: Summary) -> list[Blocked]:
     """The threads that were blocked at the end of a recording. One that holds a lock may wait for something else than a lock, and be named nowhere."""
     if not is_hung(summary):
         return []

@@ -7,7 +7,7 @@ import tempfile
 
 from ..record import losses, summary
 from ..record.folder import HISTORY, Folder, remove_tree
-from .deeper import Remade, finish_program
+from .remade import Remade, finish_program
 
 CODES = [code for code in losses.NOTES if code.startswith(HISTORY + "-")]
 
@@ -19,18 +19,24 @@ def histories_in(folder: str) -> list[str]:
     return [os.path.join(path, name) for name in sorted(names) if name.endswith(".csv")]
 
 
+def write_histories(folder: str, into: str, room: str) -> str | None:
+    """Makes those of a recording in a folder. Returns the folder of the traces that were made with them, in the room; nothing if they can't be made, as of a
+    recording by another recorder, or of one without raw.tar.gz."""
+    remade = Remade(folder, room)
+    finish = finish_program() if remade.is_there else None
+    return remade.make(finish, remade.frames, into) if finish else None
+
+
 def make_histories(folder: str) -> list[str] | None:
-    """Makes those of a recording, and notes in its summary what isn't in them. Empty if it has none, as with `--history off`; nothing if they can't be made,
-    as of a recording by another recorder, or of one without raw.tar.gz."""
+    """Makes those of a recording, and notes in its summary what isn't in them. Empty if it has none, as with `--history off`; nothing if they can't be
+    made. Where nothing can be written, those that are there are taken."""
     path = os.path.join(folder, HISTORY)
+    if not os.access(folder, os.W_OK) and histories_in(folder):
+        return histories_in(folder)
     remove_tree(path)
     with tempfile.TemporaryDirectory() as room:
-        remade = Remade(folder, room)
-        finish = finish_program() if remade.is_there else None
-        if not finish:
-            return None
         os.mkdir(path)
-        made = remade.make(finish, remade.frames, path)
+        made = write_histories(folder, path, room)
         if made:
             note_left_out(folder, made)
     if not os.listdir(path):

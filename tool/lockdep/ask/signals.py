@@ -14,13 +14,14 @@ from ..places.places import Places
 from ..program.checker import REFUSED, Answer, ask
 from ..program.checker import BY_LOCKS
 from ..program.findings import Finding, findings_of
+from ..program.verdicts import Judgement, Level, Verdict
 from ..record.folder import OF_SIGNALS, SIGNALS, WEAK
 from ..record.handlers import THREADS, Handler, handlers_in, words_of_handler
 from ..record.trace_names import traces_in
 from .signal_gates import note_gates
 from .signal_joins import without_own_joins
 from .signal_links import Links, links_of, marks_of
-from .weak import weaken
+from .timed import judge_marked
 
 TYPE_CHECKING = False
 if TYPE_CHECKING:
@@ -28,6 +29,7 @@ if TYPE_CHECKING:
 
 QUEUED = re.compile("(?<=,[0-7]),r$")
 TO_THREADS = "%s was sent to single threads alone, so code of other threads isn't checked against it"
+SIGNALS_UNORDERED = "the order of steps doesn't say when a signal may come in"
 NEVER_RAN = "handlers that never ran: %s; what these take isn't known"
 MOST_AT_ONCE = 64
 
@@ -74,10 +76,12 @@ class Signals:
         of_set, again = os.path.join(self.folder, str(handler.number)), os.path.join(room, str(handler.number))
         if found and os.path.lexists(os.path.join(of_set, WEAK)):
             os.mkdir(again)
-            weaken(found, of_set, traces + ([links.path] if links else []), again)
+            judge_marked(found, of_set, traces + ([links.path] if links else []), again)
         found = without_own_joins([finding for finding in found if may_happen(finding, handler)], traces)
         for finding in found:
             take_handler(finding, handler)
+            if finding.level in (Level.LOCKS, Level.PERHAPS) and not finding.judged:
+                finding.judged = Judgement(Verdict.NOT_KNOWN, why=SIGNALS_UNORDERED)
         note_gates(found, handler, traces)
         return found
 

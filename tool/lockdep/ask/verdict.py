@@ -1,4 +1,4 @@
-"""What the traces of a recording say of a finding besides the checker: by how many threads it was, what kept these apart, and what to look at first."""
+"""What the traces of a recording say of a finding besides the checker: by how many threads it was, and what to look at first."""
 from __future__ import annotations
 
 import os
@@ -8,14 +8,15 @@ from typing import Iterable
 from ..base.files import contents
 from ..base.words import bytes_of, class_of_lock, name_in, stands_for_several, text_of, type_of_class, unquoted
 from ..program.findings import Finding, Gate
-from ..program.kinds import Kind
+from ..program.verdicts import Level, Verdict
 from ..record import kernels
 from ..record.summary import Summary
 from ..record.threads import number_of_thread
 
 ACQUISITION = re.compile(rb'^acq,("(?:[^"]|"")*"|[^,\r\n]*),([0-7]),', re.MULTILINE)
 
-WITH_DEPTH = (Kind.PERHAPS, Kind.UNKNOWN, Kind.CLASSES, Kind.TYPES)
+VERDICTS, LEVELS = list(Verdict), list(Level)  # the strongest first
+WITH_DEPTH = (Level.PERHAPS, Level.UNKNOWN, Level.CLASSES, Level.TYPES)
 
 
 def type_of_key(key: str) -> str:
@@ -26,8 +27,6 @@ def type_of_key(key: str) -> str:
 
 class Recorded:
     """What a recording says that the checker wasn't asked: how many threads a trace stands for, and how many locks a type has."""
-
-    is_one = True  # all traces are of one recording
 
     def __init__(self, traces: list[str], summary: Summary | None = None) -> None:
         self.traces = traces
@@ -53,9 +52,13 @@ class Recorded:
         """The threads that traces are of: their own, those of traces that say the same, and those whose traces weren't written
         because of that, as far as the summary says which trace each says the same as."""
         others = {other for trace in set(traces) for other in self.alike(trace)}
-        names = {os.path.basename(other) for other in others}
-        like = sum(self.others_like.get(name[:-4] if name.endswith(".csv") else name, 0) for name in names)
+        like = sum(self.stands_for(name) - 1 for name in {os.path.basename(other) for other in others})
         return len({number_of_thread(other) or os.path.basename(other) for other in others}) + like
+
+    def stands_for(self, trace: str) -> int:
+        """How many threads one trace is of: its own, and those whose traces weren't written since they say the same."""
+        name = os.path.basename(trace)
+        return 1 + self.others_like.get(name[:-4] if name.endswith(".csv") else name, 0)
 
     def are_of_one_thread(self, inner: Finding) -> bool:
         """Whether one thread did all of a finding, by its own code and in runs of signal handlers: no trace of another thread has an order of it. The
@@ -67,6 +70,10 @@ class Recorded:
     def who_words(self, inner: Finding) -> str:
         """What is said of who did what was seen between single locks."""
         return ", " + thread_words(inner, self)
+
+    def steps_words(self, inner: Finding | None) -> str:
+        """Which order of steps may say more of a finding, if the traces are of several recordings."""
+        return ""
 
     def seen_in(self, finding: Finding) -> list[str]:
         """In which recordings the parts of a finding are, if there are several."""
@@ -123,20 +130,16 @@ def thread_words(inner: Finding, recorded: Recorded) -> str:
     return "by %s%d threads" % ("at least " if recorded.may_be_more(traces) else "", max(count, 2))
 
 
-def is_kept_apart(inner: Finding) -> bool:
+def is_guarded(inner: Finding) -> bool:
     """Whether one lock was held each time, or one thread did it all."""
     return len(inner.orders) > 1 and (gate_of_all(inner) is not None or bool(inner.only))
 
 
 def by_importance(findings: list[Finding]) -> list[Finding]:
-    """What to look at first comes first: what happened, and of what was seen between single locks that which nothing kept apart, and of
-    cycles the shortest."""
-    def rank(finding: Finding) -> tuple[int, bool, bool, int]:
+    """What to look at first comes first: by the verdict, then what counts, by the level, what no lock guards, and of cycles the shortest."""
+    def rank(finding: Finding) -> tuple[int, bool, int, bool, bool, int]:
         inner = finding.between.finding if finding.between else None
         is_other = inner is None or inner.type != "circle"
-        return (list(Kind).index(finding.kind or Kind.UNKNOWN), bool(inner) and is_kept_apart(inner), is_other,
-                0 if is_other else len(inner.orders))
+        return (VERDICTS.index(finding.verdict or Verdict.NOT_KNOWN), not finding.is_counted, LEVELS.index(finding.level or Level.UNKNOWN),
+                bool(inner) and is_guarded(inner), is_other, 0 if is_other else len(inner.orders))
     return sorted(findings, key=rank)
-
-
-# ---- What is said.

@@ -165,4 +165,4 @@ def main(words: list[str]) -> int:
     if asked.left_out or (not findings and why_incomplete(folder)):
         return 2
     counted = [finding for finding in findings if not finding.is_note]
-    return 1 if breaches or any(finding.is_confirmed or not wanted.is_strict for finding in counted) else 0
+    return 1 if breaches or any(finding.is_counted or not wanted.is_strict for finding in counted) else 0

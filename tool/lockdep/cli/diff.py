@@ -5,7 +5,7 @@ from __future__ import annotations
 import json
 import os
 import sys
-from dataclasses import dataclass, field
+from dataclasses import dataclass, field, replace
 
 from ..ask.asking import ask_about
 from ..ask.blocked import sources_wanted
@@ -30,11 +30,12 @@ WHAT = "which is neither a recording's folder nor JSON of `lockdep run --json`"
 
 @dataclass
 class Side:
-    """A finding of one of the two, with where its locks are made, and what it was seen between."""
+    """A finding of one of the two, with where its locks are made, and its verdict, in a sentence and in a word."""
 
     head: str
     lines: frozenset[str]
     seen: str = ""
+    verdict: str = ""
     places: dict[str, list[Place]] = field(default_factory=dict)
 
     def is_same(self, other: Side) -> bool:
@@ -43,9 +44,15 @@ class Side:
         return self.lines == other.lines and all(
             any(not one.is_elsewhere(another) for one in self.places[name] for another in other.places[name]) for name in shared)
 
+    def beside(self, old: list[Side]) -> Side:
+        """The same finding with what its verdict was before, if that was another one."""
+        before = next(other for other in old if self.is_same(other))
+        is_other = before.verdict != self.verdict and before.verdict and self.verdict
+        return replace(self, seen="%s; it was %s" % (self.seen, before.verdict)) if is_other else self
 
-def side_of_finding(finding: Finding, seen: str, places: dict[str, list[Place]]) -> Side:
-    return Side(finding.head, frozenset(finding.lines), seen, {name: where for name, where in places.items() if where})
+
+def side_of_finding(finding: Finding, seen: str, verdict: str, places: dict[str, list[Place]]) -> Side:
+    return Side(finding.head, frozenset(finding.lines), seen, verdict, {name: where for name, where in places.items() if where})
 
 
 def places_of(finding: Finding, sources: Sources) -> dict[str, list[Place]]:
@@ -66,7 +73,8 @@ def sides_of_folder(folder: str) -> list[Side]:
     sources, recorded, breaches = sources_of(findings, [folder]), Recorded(asked.traces), breaches_in(folder)
     sources_wanted(breaches, sources)
     sources.ask()
-    return [side_of_finding(finding, verdict_of(finding, recorded), places_of(finding, sources)) for finding in findings] + [
+    return [side_of_finding(finding, verdict_of(finding, recorded), finding.verdict.words if finding.verdict else "", places_of(finding, sources))
+            for finding in findings] + [
         Side(breach.sentence, frozenset([pattern_of(breach, sources)])) for breach in breaches]
 
 
@@ -74,7 +82,8 @@ def side_of_json(number: int, said: dict) -> Side:
     places: dict[str, list[Place]] = {}
     for lock in said.get("locks", []):
         places.setdefault(type_of_class(lock["class"]), []).append(place_of(lock["kind"], lock["place"]))
-    return side_of_finding(finding_of(number, said), said.get("verdict", ""), places)
+    word = str(said.get("judged", {}).get("verdict", "")).replace("-", " ")
+    return side_of_finding(finding_of(number, said), said.get("verdict", ""), word, places)
 
 
 def is_note(number: int, said: dict) -> bool:
@@ -132,8 +141,8 @@ def main(words: list[str]) -> int:
     if len(words) != 2:
         raise Refusal("which two recordings? lockdep diff OLD NEW")
     old, new = map(sides_of, words)
-    same = [side for side in new if any(side.is_same(other) for other in old)]
-    fresh = [side for side in new if side not in same]
+    same = [side.beside(old) for side in new if any(side.is_same(other) for other in old)]
+    fresh = [side for side in new if not any(side.is_same(other) for other in old)]
     gone = [side for side in old if not any(side.is_same(other) for other in new)]
     try:
         write_sides(fresh, gone, same)

@@ -22,7 +22,7 @@ from ..record import run_settings
 from ..record.run_settings import RunSettings
 from ..record.summary import Summary
 from ..record.trace_names import traces_in
-from ..say.recorded import end_quietly, own_summary_quietly, summary_quietly
+from ..say.recorded import end_quietly, own_summary_quietly, pack, summary_quietly
 from ..say.report import NOT_JUDGED, Recording, Report, ReportOptions, report, say
 
 STAGE = "/.lockdep-recorder/record"  # where tool/run made a copy of the script just for one recording
@@ -99,7 +99,7 @@ class Ending:
         ended = end_quietly(HOME, self.folder, self.status, self.left == ["left"], self.settings.accepted)
         self.messages = ended.messages
         if ended.status:
-            self.is_unmade = os.path.isfile(os.path.join(self.folder, "raw", "settings"))
+            self.is_unmade = ended.summary is None and os.path.isfile(os.path.join(self.folder, "raw", "settings"))
             raise self.give_up(UNJUDGED)
 
     def look_at_traces(self) -> None:
@@ -143,6 +143,11 @@ class Ending:
             raise self.refuse_traces(made)
         return made.status
 
+    def pack(self) -> None:
+        """Packs the recording itself when it has been asked about, unless something is left that writes into it, or no traces were made of it."""
+        if self.recorder not in WITH_OWN_TRACES and self.left != ["left"] and not self.is_unmade:
+            pack(self.folder)
+
 
 def end_in(room: str, words: list[str]) -> int:
     _, folder, status, *left = words
@@ -153,7 +158,11 @@ def end_in(room: str, words: list[str]) -> int:
     os.environ["LOCKDEP"] = settings.value("program")
     checker.known_version = settings.value("version")
     os.environ["TMPDIR"] = room  # temporary files of the parts are kept in the folder too
-    return Ending(settings, folder, int(status), left, room).run()
+    ending = Ending(settings, folder, int(status), left, room)
+    try:
+        return ending.run()
+    finally:
+        ending.pack()
 
 
 def main(words: list[str]) -> int:

@@ -89,7 +89,7 @@ RUN = Command("run", "record a command, check its traces, and explain what was f
            "`class:NAME`, `module:FILE`, `function:NAME`, `file:PATH`, `signal:NAME` and `verdict:WORDS`, in which `*` and `?` stand for any "
            "characters. It fits a finding of which each lock is of one of these classes and was made in such a program or library, of which a record "
            "comes from such a function in such a file, in which such a signal comes in, and whose verdict is this one or a weaker one, as "
-           "`verdict:seen-only-between-classes`; what isn't given is any. An entry may end with "
+           "`verdict:between-classes`; what isn't given is any. An entry may end with "
            "`# reason` and `until 2027-03-01`: after that day it hides nothing. A reason with `until` and no date at its end is refused. Of a pipe 100,000 "
            "bytes are taken. An entry names locks as the report does. The names of static locks are symbols, and stay. Those of locks that a call initialises, or that lie in objects from the heap, have "
            "an offset in the code of a function, as `main+0x13.m0`: after an edit of that function a known finding may look new. An entry is stale if "
@@ -101,7 +101,7 @@ RUN = Command("run", "record a command, check its traces, and explain what was f
            "stale."),
     Option("--write-known", FILE, "write the findings of this run", "Write the findings of this run to a file for --known",
            "If the file exists, its comments and the entries that still occur stay. Under each entry comments that begin with `#` and three spaces say "
-           "where its locks are made, and what its findings were seen between; these are written anew."),
+           "where its locks are made, and the strongest verdict of its findings; these are written anew."),
     Option("--strict-known", None, "stale entries of --known fail too",
            "Stale entries of that file, and names with another source line, make the status of --error-exitcode too"),
     Option("--html", OUTPUT, "where the page goes", "Where the page goes [default: FOLDER/report.html, if something new was found]",
@@ -117,9 +117,10 @@ RUN = Command("run", "record a command, check its traces, and explain what was f
     Option("--error-exitcode", STATUS, "the status if something was found",
            "Exit with this status, from 1 to 255, if something was found that isn't known, or if a thread waited for a lock when its process ended in "
            "another way than by `exit`"),
-    Option("--confirmed-only", None, "only for what was seen between single locks",
-           "Only for what was seen between single locks, or isn't known: a finding of which `seen only` (between classes or types, by timed waits, where "
-           "the joined thread had ended or another one had been joined before, while a lock was new) or `perhaps seen between locks` is said is printed, and doesn't change the status"),
+    Option("--confirmed-only", None, "only for what is possible or not known",
+           "Only for what happened, is `possible` or `not known`, and for what is `not shown` since it needs sections of a lock in another order, or more "
+           "threads than did this, and others may be like them: what is `possible by a join`, `kept apart`, `between classes`, or `not shown` for another "
+           "reason is printed, and doesn't change the status"),
 ])
 
 RECORD = Command("record", "record a command", "Runs a command, records the locks of its threads, and makes a trace of each thread.",
@@ -173,7 +174,8 @@ GATHER = Command("gather", "check recordings from many machines together", "Chec
     Option("--group", GROUP, "how many recordings a task reads", "How many recordings a task reads, from 1 to 999 [default: 200]"),
     Option("--skip-bad", None, "leave out what cannot be judged", "Leave out recordings that can't be judged, are refused or can't be read, and judge the rest. They are named all the same"),
     ACCEPT,
-    Option("--strict", None, "status 1 only for what was seen between single locks", "The status is 1 only for what was seen between single locks, or isn't known"),
+    Option("--strict", None, "status 1 only for what is not known",
+           "The status is 1 only for what is `not known`: no order of steps goes over several recordings, so nothing is said to be possible"),
     Option("--html", OUTPUT, "where the page goes", "Write the findings as a page; FILE may be `-`, standard output, instead of the text"),
     Option("--sarif", OUTPUT, "write the findings as SARIF", "Write them as SARIF 2.1.0, for code hosts and editors"),
     Option("--junit", OUTPUT, "write the findings as JUnit", "Write them as JUnit: a failed case for each finding, or a passed one if there is none"),

@@ -14,6 +14,7 @@ from ..places.sources import Sources
 from ..program.checker import REFUSED, ask
 from ..program.schedules import POSSIBLE, histories_of
 from ..record.complete import check_folder
+from ..record.folder import fault
 from ..say.schedule_text import write_histories
 from ..say.terminal import Writer, text_stream
 
@@ -40,6 +41,17 @@ def main(words: list[str]) -> int:
         return 0
     folder, is_json = folder_of(words)
     check_folder(folder)
+    try:
+        return say_of(folder, is_json)
+    except BrokenPipeError:
+        os.dup2(os.open(os.devnull, os.O_WRONLY), 1)  # a reader that has enough, as `head`, needs no message
+        return REFUSED
+    except OSError as error:
+        raise Refusal(fault(error, folder) if error.filename else "the text can't be written")
+
+
+def say_of(folder: str, is_json: bool) -> int:
+    """Makes the histories and says what the program says of them. The result is the status."""
     files = make_histories(folder)
     if not files:
         raise Refusal(NONE % visible(folder))
@@ -49,6 +61,7 @@ def main(words: list[str]) -> int:
         return answer.status
     if is_json:
         sys.stdout.buffer.write(answer.output)
+        sys.stdout.buffer.flush()
         return answer.status
     histories, sources = histories_of(answer.output), Sources()
     sources.read_classes(folder)

@@ -6,7 +6,7 @@ import re
 import signal
 import sys
 
-from ..ask.apart import folder_of
+from ..ask.lives import folder_of
 from ..ask.happened import take_happened
 from ..ask.verdict import Recorded, by_importance
 from ..base.files import STANDARD_OUTPUT, complain, is_file, print_file, same_file, text_named, write_form
@@ -18,6 +18,7 @@ from ..known.suppressions import WHAT, entries_of
 from ..places.sources import sources_of
 from ..program.checker import REFUSED, answer_of
 from ..program.findings import Finding, findings_of
+from ..program.verdicts import Verdict
 from ..record.folder import SIGNALS
 from ..record.kernels import left_out
 from ..say.forms import text_of_form
@@ -32,8 +33,7 @@ FORMS = {"page": "-o", "sarif": "--sarif", "junit": "--junit", "json": "--json"}
 ORDER = ("json", "sarif", "junit", "page")  # in which forms are made
 
 # What `confirm` says about a finding, and a note, to which it may have added what was seen between single locks.
-SEEN_LINE = re.compile("  ((happened|perhaps seen|seen|not known) .+)")
-APART_LINE = re.compile(r"  (\S+ and \S+ never ran at the same time .+)")
+VERDICT_LINE = re.compile("  ((%s|between types)[:;, ].+)" % "|".join(verdict.words for verdict in Verdict))
 NOTE_LINE = re.compile("  note: (.+)")
 
 
@@ -110,9 +110,8 @@ def confirmed_remarks(finding: Finding, block: list[str]) -> list[str]:
     """The notes of a finding with what `confirm` added to them, if its block has the same ones; and what was seen of it."""
     said = [match.group(1) for match in map(NOTE_LINE.fullmatch, block) if match]
     is_same = len(said) == len(finding.notes) and all(map(str.startswith, said, finding.notes))
-    seen = [match.group(1) for match in map(SEEN_LINE.fullmatch, block) if match]
-    apart = [match.group(1) for match in map(APART_LINE.fullmatch, block) if match]
-    return ["what may speak against it: " + note for note in (said if is_same and seen else finding.notes)] + apart[-1:] + seen[-1:]
+    verdicts = [match.group(1) for match in map(VERDICT_LINE.fullmatch, block) if match]
+    return ["what may speak against it: " + note for note in (said if is_same and verdicts else finding.notes)] + verdicts[-1:]
 
 
 def take_confirmed(found: Found, blocks: list[list[str]]) -> None:

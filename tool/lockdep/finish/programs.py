@@ -25,12 +25,23 @@ OF_LIBRARIES = ("openmp", "glib")  # kinds of locks that are a library's own, wh
 class Files:
     """What `look` says of files: of one as a program that is started, and of one as a program or library with locks."""
 
-    def __init__(self, look: str, paths: list[str]) -> None:
+    def __init__(self, look: str, paths: list[str], looked: bytes = b"", looked_at: list[str] = ()) -> None:
+        """What `look` has written of some files already may be given."""
         self.as_program: dict[str, list[str]] = {}
         self.of_locks: dict[str, list[str]] = {}
-        paths = [path for path in dict.fromkeys(paths) if path and "\n" not in path and os.path.isfile(path)]
-        for some in batches(paths):
+        self.take(looked)
+        known = set(looked_at) if looked else set()
+        paths = [path for path in dict.fromkeys(paths) if path not in known and path and "\n" not in path and os.path.isfile(path)]
+        same = {path: os.path.realpath(path) for path in paths}
+        for path in paths:
+            self.take_same(path, same[path] if same[path] in known else "")
+        for some in batches([path for path in paths if same[path] not in known]):
             self.take(output_of([look, "--all"] + some, is_quiet=True)[1])
+
+    def take_same(self, path: str, known: str) -> None:
+        """Takes what is known of a file by another path of it."""
+        for words in (self.as_program, self.of_locks):
+            words.update({path: words[known]} if known in words else {})
 
     def take(self, output: bytes) -> None:
         for line in os.fsdecode(output).split("\n")[:-1]:
@@ -85,14 +96,16 @@ class Started:
 class Programs:
     """All programs and libraries of a recording, with what their files show."""
 
-    def __init__(self, folder: str, raw: str, program: str, summary: Summary, look: str, is_passed: bool) -> None:
+    def __init__(self, folder: str, raw: str, program: str, summary: Summary, look: str, is_passed: bool,
+                 looked: bytes = b"") -> None:
         self.folder, self.raw, self.program, self.summary = folder, raw, program, summary
         self.is_passed = is_passed  # what isn't seen is left to whoever named the recorder
         self.started = [Started(file) for file in summary.files_of(STARTED)]
         self.modules = sorted(set(modules_of(folder)), key=os.fsencode)
         self.ran = [self.place(path) for path in dict.fromkeys(self.names_run())]
         self.run_files = list(dict.fromkeys(path for path in self.ran + [file.path for file in summary.files_of(LOADED)] if not path.endswith("/preload.so")))
-        self.files = Files(look, [program] + self.modules + self.ran + self.run_files + [each.file or "" for each in self.started])
+        paths = [program] + self.modules + self.ran + self.run_files + [each.file or "" for each in self.started]
+        self.files = Files(look, paths, looked, [file.path for file in summary.files_of(LOADED)])
 
     # ---- What ran.
 

@@ -3,6 +3,7 @@ from __future__ import annotations
 
 import os
 import zlib
+from typing import NamedTuple
 
 from ..base.files import is_elf
 from ..base.processes import PIECE, output_of, run, start, status_of
@@ -15,6 +16,7 @@ from ..record.summary import STARTED, Summary, put, read, write
 from . import finishes
 
 GZIP = 31  # the form of a compressed file, and the largest window
+OF_LOOK = "LOCKDEP_LOOK"  # tells `finish` the path of `look`
 NOT_RUN = (126, 127)  # the statuses of a command that couldn't be run
 
 
@@ -25,13 +27,14 @@ def make(home: str, folder: Folder, settings: Settings, ended: int | None) -> Su
     unmade = "the traces can't be made; %s/raw has the recording, and `lockdep record --finish %s` tries again" % (folder.path, typed(folder.path))
     try:
         try:
-            summary = make_files(home, folder.path, folder.raw, settings)
+            made = make_files(home, folder.path, folder.raw, settings)
         finally:
             folder.list_made()
+        summary = made.summary
         if summary is None:
             raise Refusal(unmade)
         put(os.path.join(folder.raw, "settings"), settings.text())  # traces that are made again have as many callers as these
-        complete(home, folder, settings, summary, ended)
+        complete(home, folder, settings, summary, made.looked, ended)
         write(folder.path, summary, settings.recorder)
         folder.list_made()
     except OSError as error:
@@ -40,31 +43,44 @@ def make(home: str, folder: Folder, settings: Settings, ended: int | None) -> Su
     return summary
 
 
-def make_files(home: str, path: str, raw: str, settings: Settings) -> Summary | None:
-    """Makes the traces of a recording in a folder. The result is a first summary, unless they can't be made."""
+class Made(NamedTuple):
+    """What was made of a recording: a first summary, unless the traces can't be made, and what `look` wrote of the files that it calls loaded."""
+
+    summary: Summary | None
+    looked: bytes = b""
+
+
+def make_files(home: str, path: str, raw: str, settings: Settings) -> Made:
+    """Makes the traces of a recording in a folder."""
     made = finishes.finish(settings.recorder, path, raw)
     if made is not None:
         made.home = home
-        return made
-    return read(path, home, is_first=True) if run_finish(home, path, settings) == 0 else None
-
-
-def run_finish(home: str, path: str, settings: Settings) -> int:
-    """Runs the program that makes the traces. The result is its status."""
+        return Made(made)
     finisher = RECORDERS[settings.recorder].finisher
     if finisher:
-        return run([os.path.join(home, "recorders", finisher), path])
+        status = run([os.path.join(home, "recorders", finisher), path])
+        return Made(read(path, home, is_first=True) if status == 0 else None)
+    looked = run_finish(home, path, settings)
+    return Made(read(path, home, is_first=True), looked)
+
+
+def run_finish(home: str, path: str, settings: Settings) -> bytes:
+    """Runs the program that makes the traces and their summary at last, and then becomes `look`, whose output this is."""
     built = recorder_folder(home)
     names = os.path.join(built, "names")
     if os.environ.get("LOCKDEP_NAMES") != "places" and is_elf(names):  # (without libdw it is a script that finds nothing)
         output_of([names, path], is_quiet=True)  # (what can't be found has no type)
     frames = [settings.frames] if settings.frames else []
-    return run([os.path.join(built, "finish"), path, settings.version] + frames)
+    os.environ[OF_LOOK] = os.path.join(built, "look")
+    try:
+        return output_of([os.path.join(built, "finish"), path, settings.version] + frames)[1]
+    finally:
+        del os.environ[OF_LOOK]
 
 
 # ---- The summary.
 
-def complete(home: str, folder: Folder, settings: Settings, summary: Summary, ended: int | None) -> None:
+def complete(home: str, folder: Folder, settings: Settings, summary: Summary, looked: bytes, ended: int | None) -> None:
     """Adds what isn't in the recording itself to its first summary: what the programs' files show."""
     from . import programs
     look, is_passed = os.path.join(recorder_folder(home), "look"), settings.named == "yes"
@@ -75,7 +91,7 @@ def complete(home: str, folder: Folder, settings: Settings, summary: Summary, en
         finishes.note_others(settings.recorder, folder.raw, settings.program, summary, look, is_passed)
         summary.drop(STARTED)
         return
-    found = programs.Programs(folder.path, folder.raw, settings.program, summary, look, is_passed)
+    found = programs.Programs(folder.path, folder.raw, settings.program, summary, look, is_passed, looked)
     if not summary.number("processes") and ended in NOT_RUN:
         say_not_run(summary)
     else:
@@ -164,7 +180,7 @@ def can_be_made_again(home: str, folder: Folder, settings: Settings) -> bool:
     os.makedirs(again, exist_ok=True)
     os.symlink("..", os.path.join(again, "raw"))
     try:
-        made = make_files(home, again, os.path.join(again, "raw"), settings)
+        made = make_files(home, again, os.path.join(again, "raw"), settings).summary
         return made is not None and made.number("processes") >= earlier.number("processes")
     except (OSError, Refusal):
         return False

@@ -9,18 +9,20 @@ from ..base.saying import Refusal
 from ..base.words import bytes_of, counted, name_in, text_of, visible
 from ..program.checker import REFUSED, ask
 from ..program.findings import Between, Finding, findings_of
-from ..program.kinds import Kind
+from ..program.verdicts import Level
 from ..say.found import Found
 from .facts import Program
 from .gathered import TRACE, Gathered
 from .names import class_of, is_lock
 from .orders import USED, Seen
 from .places import MARKS, OCCURRENCE, Recordings, Wanted
-from .weak import weaken
+from .timed import judge_timed
 
 ASKED = ["explain", "--locks", "--json", "--many", "--"]
 MARK_NAMES = {"used": b"%s", "enabled": b"%ss on"}  # in the table, for a state of interrupts
 NO_LOCKS = "some recordings have no traces of single locks"
+OF_ONE = "`lockdep confirm` of that recording says what the order of its steps shows"
+OF_EACH = "the order of steps that each recording has is of its own steps alone"
 NO_RECORDS = "no records are shown for %s: none of the recordings that are named is there any more and has it"
 
 
@@ -108,7 +110,7 @@ def findings_in(gathered: Gathered, back: Back) -> list[Finding]:
     for is_of_locks, part in levels:
         back.put(part, is_of_locks)
     findings = findings_of(json.dumps(said).encode())
-    weaken(findings, gathered.files[TRACE], back.table, gathered.folder)
+    judge_timed(findings, gathered.files[TRACE], back.table, gathered.folder)
     if b"by-classes" in gathered.lists():
         hide_classes(findings)
     findings = by_importance(findings)
@@ -121,15 +123,13 @@ def hide_classes(findings: list[Finding]) -> None:
     """Some recordings have no single locks: it isn't known whether a name without a number is one lock in them."""
     for finding in findings:
         between = finding.between
-        if between and between.kind is Kind.LOCKS and between.finding and not any(is_lock(bytes_of(name_in(key))) for key in between.finding.keys):
-            finding.between = Between(Kind.UNKNOWN, reason=NO_LOCKS)
-            finding.json["between"] = {"kind": Kind.UNKNOWN.value}
+        if between and not finding.judged and between.level is Level.LOCKS and between.finding and not any(is_lock(bytes_of(name_in(key))) for key in between.finding.keys):
+            finding.between = Between(Level.UNKNOWN, reason=NO_LOCKS)
+            finding.json["between"] = {"kind": Level.UNKNOWN.value}
 
 
 class InRecordings(Recorded):
     """What several recordings say of a finding."""
-
-    is_one = False
 
     def __init__(self, gathered: Gathered, back: Back) -> None:
         super().__init__([gathered.trace])
@@ -143,11 +143,18 @@ class InRecordings(Recorded):
 
     def who_words(self, inner: Finding) -> str:
         """Whether one recording has all of it."""
-        seen = [self.back.seen(what, True) for what, _ in parts_of(inner.json)]
-        common = set(seen[0].first).intersection(*(each.first for each in seen[1:])) if seen else set()
+        common, seen = self.common_to(inner)
         if common:
             return ", all in %s" % visible(self.back.recordings.names.get(min(common), ""))
         return ", only by several recordings together" if all(each.is_whole for each in seen) else ""
+
+    def steps_words(self, inner: Finding | None) -> str:
+        return OF_ONE if inner and self.common_to(inner)[0] else OF_EACH
+
+    def common_to(self, inner: Finding) -> tuple[set[str], list[Seen]]:
+        """The recordings that are named for each part of a finding between single locks, and what has each part."""
+        seen = [self.back.seen(what, True) for what, _ in parts_of(inner.json)]
+        return set(seen[0].first).intersection(*(each.first for each in seen[1:])) if seen else set(), seen
 
 
 def words_of_wanted(what: Wanted, finding: Finding) -> str:

@@ -238,7 +238,7 @@ def explain(line: Words, folder: str, gathered: Gathered, path: str, forms: dict
     if STANDARD_OUTPUT not in forms.values():
         write_text(findings, recorded)
     write_forms(gathered, forms, findings, recorded, lost)
-    counted_ones = [finding for finding in findings if not finding.is_note and (finding.is_confirmed or not line.has("--strict"))]
+    counted_ones = [finding for finding in findings if not finding.is_note and (finding.is_counted or not line.has("--strict"))]
     if lost:
         say("left out: %s" % ", ".join(lost))
     if counted_ones or b"breaches" in gathered.lists():

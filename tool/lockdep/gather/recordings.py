@@ -26,7 +26,7 @@ from .facts import FOLDED, TOO_LONG_NAME, TOO_MUCH, Facts, Program
 from .gathered import TRACE, Gathered
 from .names import NoRoom, in_recording, is_rest, rest_of
 from .orders import Seen, entries_of, facts_in, orders_of_locks
-from .weak import renamed, weak_table
+from .timed import renamed, timed_table
 
 UNGATHERED, NEVER_RAN, WEAK_ACQUISITIONS = "ungathered-signals", "never-ran-signals", "weak"
 ACCEPTED = "accepted "  # begins what is said of recordings with a loss that is accepted
@@ -120,7 +120,7 @@ def facts_of_folder(task: Task, number: int, folder: str) -> Facts:
     said = said_of(folder, summaries[0], bool(objects)) + [ACCEPTED + code for code in accepted]
     facts.lists.update({name.encode(): Seen(1, ((number,),)) for name in said})
     if objects and WEAK_ACQUISITIONS in said:
-        facts.orders.update(weak_table(task.program, number, folder, traces, answer.output))
+        facts.orders.update(timed_table(task.program, number, folder, traces, answer.output))
     return facts
 
 

@@ -15,9 +15,8 @@ from ..binaries.symbols import Frame
 from ..places.sources import Sources, own_keys_of
 from ..places.where_made import Place, place_now
 from ..program.findings import Finding, by_line, handlers_of, report_lines
-from ..program.kinds import SEEN
 from .stale import Judge
-from .suppressions import KINDS, TEXT, VERDICT, Entry, entries_of, pattern_text, today
+from .suppressions import COMMENT, LISTED, OLD_VERDICT, TEXT, Entry, entries_of, is_verdict, listed_words, pattern_text, today
 from .taking_part import TakingPart
 
 FIRST_LINE = "# Known findings, for the option --known of lockdep run: lines of a report, comments and blank lines."
@@ -81,7 +80,7 @@ def fits_finding(entry: Entry, finding: Finding, sources: Sources) -> bool:
     frames, handler = frames_of(finding.events(), sources), finding.handler
     frames += names_of([handler.frame(sources.symbols)]) if handler else []
     return entry.hides(finding.type, classes_of(keys, sources), frames, handler.signal if handler else "",
-                       modules_of(keys, sources), finding.kind)
+                       modules_of(keys, sources), finding.verdict)
 
 
 def fits_blocked(entry: Entry, thread: Blocked | Breach, sources: Sources) -> bool:
@@ -144,14 +143,14 @@ def sort(findings: list[Finding], blocked: list[Blocked], entries: list[Entry], 
 
 
 class Comments:
-    """The comments under a line of a report: what its findings were seen between, at the strongest, and where its locks are made."""
+    """The comments under a line of a report: the strongest verdict of its findings, and where its locks are made."""
 
     def __init__(self, findings: list[Finding], taking: TakingPart) -> None:
         self.taking, self.findings = taking, by_line(findings)
 
     def of(self, line: str) -> list[str]:
-        kinds = [finding.kind for finding in self.findings.get(line, ()) if finding.kind]
-        verdict = ["#   " + SEEN[min(kinds, key=KINDS.index)]] if kinds else []
+        words = [listed_words(finding.judgement) for finding in self.findings.get(line, ()) if finding.judgement]
+        verdict = [COMMENT + min(words, key=list(LISTED).index)] if words else []
         now = [(made.name, place_now(made, self.taking.sources, shown=True)) for made in self.taking.made(line)]
         return verdict + [comment for name, place in now if place for comment in comments_of(name, place)]
 
@@ -163,7 +162,7 @@ def comments_of(name: str, place: Place) -> list[str]:
 
 
 def is_comment_of_entry(line: str) -> bool:
-    return bool(PLACE_COMMENT.match(line.strip()) or TEXT.fullmatch(line.strip())) or line.strip() in VERDICT
+    return is_verdict(line.strip()) or any(pattern.match(line.strip()) for pattern in (PLACE_COMMENT, TEXT, OLD_VERDICT))
 
 
 def list_of(findings: list[Finding], old: str, sources: Sources, traces: list[str] = (), breaches: list[Breach] = (),

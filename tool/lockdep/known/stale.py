@@ -1,5 +1,5 @@
 """What makes an entry of a list of known findings stale: its day has passed, a lock of it is made elsewhere now, a class takes part
-that isn't listed, or a finding of it was seen between locks where it wasn't. A stale entry hides nothing."""
+that isn't listed, or a finding of it has a stronger verdict. A stale entry hides nothing."""
 from __future__ import annotations
 
 import os
@@ -10,8 +10,7 @@ from ..base.words import type_of_class
 from ..places.places import Made
 from ..places.where_made import Place, place_now
 from ..program.findings import Finding, by_line, handlers_of
-from ..program.kinds import SEEN
-from .suppressions import KINDS, Entry, today
+from .suppressions import LISTED, Entry, listed_words, today
 from .taking_part import TakingPart
 
 OFFSET_IN_CODE = re.compile(r"\+0x[0-9a-f#]")
@@ -71,7 +70,7 @@ class Judge:
 
     def is_same(self, entry: Entry, place: Place, made: Made, now: Place) -> bool:
         """Whether a class is made at a listed place. If other classes are so too, only the lines tell which of them it is."""
-        is_exact = entry.kind is not None
+        is_exact = bool(entry.listed)
         if place.is_elsewhere(now, is_exact):
             return False
         others = [place_now(other, self.sources, shown=True) for other in self.alike(made)]
@@ -106,10 +105,9 @@ class Judge:
 
     def stronger(self, entry: Entry) -> list[str]:
         """That a finding of the entry has a stronger verdict now than the one that is listed."""
-        kinds = [finding.kind for finding in self.findings[entry.line] if not entry.excuses(finding.kind)]
-        if not kinds:
-            return []
-        return ["it was %s, and is now %s" % (SEEN[entry.kind], SEEN[min(kinds, key=KINDS.index)])]
+        words = [listed_words(finding.judgement) for finding in self.findings[entry.line]]
+        stronger = [each for each in words if not entry.excuses(each)]
+        return ["it was %s, and is now %s" % (entry.listed, min(stronger, key=list(LISTED).index))] if stronger else []
 
 
 def listed_places(entry: Entry) -> dict[str, list[Place]]:

@@ -2,8 +2,8 @@
 
 A list has, one a line: the lines of findings of a report; patterns, as `cycle class:Session::m function:flush_*`; comments that
 begin with `#`; and blank lines. An entry may end with a reason, `# by design until 2027-03-01`. The comments `#   NAME: PLACE`
-under a line of a report say where its locks were made when it was written, and one as `#   seen only between classes` what its
-findings were seen between; lists of earlier versions don't have that one."""
+under a line of a report say where its locks were made when it was written, and one as `#   between classes` which verdict its
+findings had; lists of earlier versions don't have that one, or have another."""
 from __future__ import annotations
 
 import os
@@ -15,7 +15,7 @@ from fnmatch import fnmatchcase
 from ..base.saying import Refusal
 from ..base.words import visible
 from ..places.where_made import Place, place_of
-from ..program.kinds import SEEN, Kind
+from ..program.verdicts import Judgement, Verdict
 
 STATE = r"(?:hardirq|softirq|SIG[A-Z0-9]+(?:[+-][0-9]+)?:\S*)"  # what comes in: an interrupt, or a signal with its handler
 LINE = re.compile(r"(circle \S+/[0-7] [ES][RN]|double %s|inversion %s \S+/[0-7]) \S+/[0-7]" % (STATE, STATE))
@@ -36,16 +36,25 @@ NO_DATE = "%s: line %d has a reason with `until` and no date at its end, such as
 CYCLE = "circle"  # as reports have it
 
 
-KINDS = list(SEEN)  # the strongest first
-# The comment under a line of a report that says what its findings were seen between when the list was written: the strongest of it.
-VERDICT = {"#   " + words: kind for kind, words in SEEN.items()}
-# As a pattern has it, in one word. One that hides what was made to happen says no verdict.
-UP_TO = {words.replace(",", "").replace(" ", "-"): kind for kind, words in SEEN.items() if kind is not Kind.HAPPENED}
+VERDICTS = list(Verdict)  # the strongest first
+COMMENT = "#   "  # begins what is said under a line of a report
+NOT_COUNTED = ", and not counted"
+# The verdicts that comments have, with how strong each is. Which of those in the second group a run gives hangs on the order in which its steps happened
+# to come, so an entry of one excuses the others too; and so of the third.
+LISTED = {"happened": 0, "possible": 1, "possible by a join": 1, "not known": 1, "not shown": 1, "not shown" + NOT_COUNTED: 2, "kept apart": 2,
+          "between classes": 3}
+OLD_CLASSES = re.compile("#   seen only between (classes|types)(, .+)?")  # the one of an earlier version that has a counterpart
+OLD_VERDICT = re.compile("#   (seen|perhaps seen|not known whether seen|made to happen) .+")  # the comment that earlier versions wrote instead
+# As a pattern has it. One that hides what was made to happen says no verdict.
+UP_TO = {verdict.value: verdict for verdict in VERDICTS if verdict is not Verdict.HAPPENED}
+strength = VERDICTS.index  # the place of a verdict among all, from the strongest on
 
-
-def strength(kind: Kind) -> int:
-    """The place of a verdict among all, from the strongest on. A mixed one is as strong as the strongest of which it is mixed."""
-    return min(KINDS.index(each) for each in kind.needs or [kind])
+def listed_words(judgement: Judgement | None) -> str:
+    """The verdict of a finding as comments have it; empty if it has none."""
+    if not judgement:
+        return ""
+    is_more = judgement.verdict is Verdict.NOT_SHOWN and not judgement.is_counted
+    return judgement.verdict.words + (NOT_COUNTED if is_more else "")
 
 
 @dataclass
@@ -61,8 +70,8 @@ class Entry:
     reason: str = ""
     places: dict[str, Place] = field(default_factory=dict)
     last: str = ""  # the name whose place was read last
-    kind: Kind | None = None  # the strongest verdict that a line of a report excuses, if that is known
-    most: Kind | None = None  # the strongest verdict that a pattern hides, if it says one
+    listed: str = ""  # the strongest verdict that a line of a report excuses, if that is known
+    most: Verdict | None = None  # the strongest verdict that a pattern hides, if it says one
 
     @property
     def is_pattern(self) -> bool:
@@ -71,13 +80,13 @@ class Entry:
     def is_expired(self, today: str) -> bool:
         return bool(self.until) and today > self.until
 
-    def excuses(self, kind: Kind | None) -> bool:
-        """Whether a line of a report may hide a finding with this verdict, which isn't stronger than the one of the list. If one of
-        them isn't known, it may."""
-        return None in (self.kind, kind) or strength(kind) >= strength(self.kind)
+    def excuses(self, words: str) -> bool:
+        """Whether a line of a report may hide a finding with this verdict, which isn't stronger than the one of the list. If one of them isn't known, it
+        may."""
+        return "" in (self.listed, words) or LISTED[words] >= LISTED[self.listed]
 
     def hides(self, type: str, classes: list[tuple[str, ...]], frames: list[tuple[str, str]], signal: str = "",
-              modules: list[str] = (), kind: Kind | None = None) -> bool:
+              modules: list[str] = (), verdict: Verdict | None = None) -> bool:
         """Whether a pattern fits a finding: each of its classes, by one of its names, fits one of the pattern's, if that names any,
         and was made in such a module; a record of the finding comes from such a function and file, its signal is such a one, and
         its verdict isn't stronger, if it names these. An unknown verdict is no such one, and an unknown module neither."""
@@ -85,7 +94,7 @@ class Entry:
                                                              for wanted in ("class", "module", "function", "file", "signal"))
         if self.type != type or signals and not fits_one(signal, signals):
             return False
-        if self.most and (kind is None or strength(kind) < strength(self.most)):
+        if self.most and (verdict is None or strength(verdict) < strength(self.most)):
             return False
         if of_modules and not (modules and all(module and fits_one(module, of_modules) for module in modules)):
             return False
@@ -151,12 +160,16 @@ def entry_of(number: int, text: str, name: str) -> Entry:
     return entry
 
 
-def most_of(entry: Entry, name: str) -> Kind | None:
+def most_of(entry: Entry, name: str) -> Verdict | None:
     """The strongest verdict that a pattern hides, if it says one. A word that is none is refused."""
     words = [word for field_name, word in entry.fields if field_name == "verdict"]
     if not set(words) <= set(UP_TO):
         raise Refusal(NO_VERDICT % (visible(name), entry.number, ", ".join(UP_TO)))
     return min((UP_TO[word] for word in words), key=strength, default=None)
+
+
+def is_verdict(line: str) -> bool:
+    return line.startswith(COMMENT) and line[len(COMMENT):] in LISTED
 
 
 def take_comment(entry: Entry, line: str) -> None:
@@ -168,7 +181,10 @@ def take_comment(entry: Entry, line: str) -> None:
     text = TEXT.fullmatch(line)
     if text and entry.last:
         entry.places[entry.last] = entry.places[entry.last].with_text(text.group(1), text.group(2))
-    entry.kind = VERDICT.get(line, entry.kind)
+    if OLD_CLASSES.fullmatch(line):
+        entry.listed = Verdict.CLASSES.words
+    elif is_verdict(line):
+        entry.listed = line[len(COMMENT):]
 
 
 def entries_of(text: str, name: str) -> list[Entry]:

@@ -51,8 +51,12 @@ class Sources:
     def take_record(self, event: Event, line: tuple[int, str] | None, places: Places) -> None:
         if line:
             self.records[event] = line
-        self.callers[event] = places.callers(event.record)
-        for caller in self.callers[event]:
+        self.take_callers({event: places.callers(event.record)})
+
+    def take_callers(self, callers: dict[Event, list]) -> None:
+        """Takes where records come from, of files that may be gone."""
+        self.callers.update(callers)
+        for caller in (caller for several in callers.values() for caller in several):
             self.symbols.want(caller)
 
     def read_classes(self, folder: str) -> bool:
@@ -168,6 +172,8 @@ def sources_of(findings: list[Finding], folders: Iterable[str] = ()) -> Sources:
     sources = Sources()
     events = [event for finding in findings for event in finding.events()]
     sources.want_events(events)
+    for finding in findings:
+        sources.take_callers(finding.judged.callers_of_ring() if finding.judged else {})
     for folder in dict.fromkeys([folder for event in events for folder in folders_of(event.file)] + list(folders)):
         sources.read_classes(folder)
     keys = [key for finding in findings for key in keys_of(finding)] + [sources.key_at(event) for event in events]

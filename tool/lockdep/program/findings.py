@@ -6,7 +6,8 @@ from dataclasses import dataclass, field
 
 from ..base.saying import Refusal
 from ..base.words import text_of, visible
-from .kinds import Kind
+from .events import MALFORMED, Event, Held
+from .verdicts import OF_LEVELS, Judgement, Level, Verdict
 
 TYPE_CHECKING = False
 if TYPE_CHECKING:
@@ -16,23 +17,6 @@ if TYPE_CHECKING:
 
 VERSIONS = (1, 2, 3)
 STATES = ("hardirq", "softirq")
-
-
-@dataclass(frozen=True)
-class Event:
-    """A record of a trace."""
-
-    file: str
-    record: int
-
-
-@dataclass(frozen=True)
-class Held:
-    """A lock that a trace holds at its end, and the record that took it."""
-
-    key: str
-    mode: str
-    event: Event
 
 
 @dataclass(frozen=True)
@@ -95,7 +79,7 @@ class Between:
     """What a finding was seen between, with the finding between single locks if there is one. For a trace that couldn't be
     asked about, it is unknown, for a reason."""
 
-    kind: Kind
+    level: Level
     finding: Finding | None = None
     reason: str = ""
 
@@ -116,6 +100,7 @@ class Finding:
     gates: list[Gate] = field(default_factory=list)
     only: str = ""
     between: Between | None = None
+    judged: Judgement | None = None  # by what a recording says of it
     json: dict = field(default_factory=dict)
     number: int = 0
     happened: Happened | None = None  # in a run of `lockdep provoke`
@@ -140,20 +125,29 @@ class Finding:
         return " ".join(["circle", self.orders[0].start] + words)
 
     @property
-    def kind(self) -> Kind | None:
+    def level(self) -> Level | None:
+        return self.between.level if self.between else None
+
+    @property
+    def judgement(self) -> Judgement | None:
+        """What is known of the finding; nothing if single locks weren't asked about."""
         if self.happened:
-            return Kind.HAPPENED
-        return self.between.kind if self.between else None
+            return Judgement(Verdict.HAPPENED)
+        return self.judged or (Judgement(OF_LEVELS[self.level]) if self.level else None)
+
+    @property
+    def verdict(self) -> Verdict | None:
+        return self.judgement.verdict if self.judgement else None
 
     @property
     def is_note(self) -> bool:
         """A type nested in itself is a note, and no finding."""
-        return self.kind is Kind.NESTED
+        return self.level is Level.NESTED and not self.happened
 
     @property
-    def is_confirmed(self) -> bool:
-        """Whether the checker's `--confirmed-only` counts it."""
-        return self.kind in (None, Kind.HAPPENED, Kind.LOCKS, Kind.UNKNOWN)
+    def is_counted(self) -> bool:
+        """Whether it makes a run fail of which only that counts which is possible, or not known."""
+        return self.judgement is None or self.judgement.is_counted
 
     @property
     def is_narrow(self) -> bool:
@@ -221,7 +215,7 @@ def gate_of(said: dict) -> Gate:
 
 
 def between_of(number: int, said: dict) -> Between:
-    return Between(Kind(said["kind"]), finding_of(number, said["finding"]) if "finding" in said else None)
+    return Between(Level(said["kind"]), finding_of(number, said["finding"]) if "finding" in said else None)
 
 
 def finding_of(number: int, said: dict) -> Finding:
@@ -254,7 +248,6 @@ def json_of(raw: bytes, versions: tuple[int, ...] = VERSIONS) -> dict:
     return said
 
 
-MALFORMED = (ValueError, KeyError, TypeError, AttributeError, IndexError, RecursionError)
 UNREADABLE = "what `explain --json` wrote can't be read: %s"
 
 

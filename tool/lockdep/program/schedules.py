@@ -2,14 +2,17 @@
 from __future__ import annotations
 
 import json
+import os
 from dataclasses import dataclass
+from typing import Iterator
 
 from ..base.saying import Refusal
 from ..base.words import text_of, visible
-from .findings import MALFORMED, Event, Held
+from .events import MALFORMED, Event, Held
 
 VERSION = 1
 POSSIBLE = "possible"  # the verdict of a ring at which a schedule of the recorded steps stands still
+NOT_KNOWN, NOT_SHOWN, APART = "not known", "not shown", "kept apart"  # the others, the strongest first
 
 
 @dataclass(frozen=True)
@@ -31,7 +34,7 @@ class Waiting:
 
 
 @dataclass(frozen=True)
-class Reason:
+class Forced:
     """Why no schedule comes to a ring: what a task has to do, or can't do, by the word for it; at which record, and which record of another task makes it
     do that, if there are such."""
 
@@ -50,7 +53,16 @@ class Ring:
     joins: bool
     waits: tuple[Waiting, ...]
     schedule: tuple[Place, ...]
-    because: tuple[Reason, ...]
+    because: tuple[Forced, ...]
+
+    def events(self) -> Iterator[Event]:
+        """The steps that it names."""
+        for waiting in self.waits:
+            yield waiting.place.event
+            yield from (held.event for held in waiting.holds)
+        yield from (place.event for place in self.schedule)
+        for forced in self.because:
+            yield from (event for event in (forced.event, forced.after and forced.after.event) if event)
 
 
 @dataclass(frozen=True)
@@ -74,28 +86,28 @@ def waiting_of(said: dict, file: str) -> Waiting:
     return Waiting(place_of(said, file), str(said["waits_for"]), str(said["mode"]), holds)
 
 
-def reason_of(said: dict, file: str) -> Reason:
+def forced_of(said: dict, file: str) -> Forced:
     event = Event(file, int(said["record"])) if "record" in said else None
-    return Reason(str(said["task"]), str(said["by"]), event, place_of(said["after"], file) if "after" in said else None)
+    return Forced(str(said["task"]), str(said["by"]), event, place_of(said["after"], file) if "after" in said else None)
 
 
 def ring_of(said: dict, file: str) -> Ring:
     return Ring(str(said["verdict"]), bool(said["joins"]), tuple(waiting_of(step, file) for step in said["steps"]),
-                tuple(place_of(place, file) for place in said.get("schedule") or ()), tuple(reason_of(reason, file) for reason in said.get("because") or ()))
+                tuple(place_of(place, file) for place in said.get("schedule") or ()), tuple(forced_of(reason, file) for reason in said.get("because") or ()))
 
 
-def history_of(said: dict) -> History:
-    file = str(said["file"])
+def history_of(said: dict, folder: str) -> History:
+    file = os.path.join(folder, os.path.basename(str(said["file"]))) if folder else str(said["file"])
     return History(file, int(said["steps"]), int(said["tasks"]), tuple(ring_of(ring, file) for ring in said["rings"]), int(said["not_tried"]),
                    bool(said["all_tried"]))
 
 
-def histories_of(raw: bytes) -> list[History]:
-    """The histories of what `schedule --json` wrote."""
+def histories_of(raw: bytes, folder: str = "") -> list[History]:
+    """The histories of what `schedule --json` wrote. They may be called as if they were in another folder."""
     try:
         said = json.loads(text_of(raw))
         if said["schedule"] != VERSION:
             raise Refusal("`schedule --json` wrote version %s, and this program reads version %d" % (visible(str(said["schedule"])), VERSION))
-        return [history_of(history) for history in said["histories"]]
+        return [history_of(history, folder) for history in said["histories"]]
     except MALFORMED as error:
         raise Refusal("what `schedule --json` wrote can't be read: %s" % visible(repr(error)))

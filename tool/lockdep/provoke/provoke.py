@@ -12,7 +12,7 @@ from ..base.words import class_of_lock, name_in, type_of_class
 from ..finish.joins import THREAD
 from ..places.places import classes_in
 from ..program.findings import Finding
-from ..program.kinds import Kind
+from ..program.verdicts import Level, Reason
 from ..record.folder import fault
 from ..record.recorders import RECORDERS, Recorder, recorder_for
 from ..record.summary import recorder_of
@@ -25,9 +25,8 @@ from .tries import NOT_HAPPENED, NOTHING_TRIED, Tries, say
 
 LONGER = 10  # how many times as long as the recorded run another one may take
 LEAST_LIMIT = 30.0  # seconds
-UNTRIED = {Kind.TYPES: "no class of locks takes part both ways", Kind.TIMED: "its cycle needs a wait that gives up",
-           Kind.TIMED_OR_NEW: "its cycle needs a wait that gives up, or a lock that was new",
-           Kind.TIMED_ENDED_OR_NEW: "its cycle needs a wait that gives up, a thread that had ended, or a lock that was new"}
+OF_TYPES = "no class of locks takes part both ways"
+TIMED = "its cycle needs a wait that gives up"
 
 
 def provoke(home: str, line: Words) -> int:
@@ -147,4 +146,6 @@ def why_untried(finding: Finding) -> str:
         return why_not_by_signal(finding)
     if any(order.end.startswith(THREAD) for order in finding.orders):
         return "its cycle waits for a thread's end"
-    return UNTRIED.get(finding.kind, "") if finding.kind else ""
+    if finding.level is Level.TYPES:
+        return OF_TYPES
+    return TIMED if finding.judged and finding.judged.reason is Reason.TIMED else ""

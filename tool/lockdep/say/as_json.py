@@ -4,13 +4,14 @@ from __future__ import annotations
 
 import json
 
-from ..ask.apart import threads_apart
 from ..ask.blocked import Blocked
 from ..ask.breaches import Breach
 from ..ask.signals import Signals
 from ..base.words import text_of, visible
 from ..binaries.symbols import Frame, Symbols
 from ..program.findings import Event, Finding
+from ..program.schedules import Forced, Place
+from ..program.verdicts import Judgement
 from ..record.handlers import Handler
 from ..record.provoked import Happened
 from ..record.threads import name_of_thread
@@ -81,12 +82,38 @@ def finding_json(finding: Finding, found: Found) -> dict:
     said["locks"] = locks_of(finding, found)
     if finding.handler:
         said.update(handler_json(finding.handler, found.sources.symbols), sent_to=finding.handler.sent_to, narrow=finding.is_narrow)
-    apart = threads_apart(finding, found.recorded)
-    if apart:
-        said["threads_apart"] = list(apart)
+    if finding.judgement and not found.recorded.is_kernels():  # (whose names tell no single locks apart)
+        said["judged"] = judged_json(finding.judgement, found)
     if finding.happened:
         said["happened"] = happened_json(finding.happened)
     return said
+
+
+def judged_json(judgement: Judgement, found: Found) -> dict:
+    """The verdict: its word, whether it counts, why nothing is known or shown, and the ring of the history, with how far each task goes on or what keeps
+    them apart."""
+    said: dict = {"verdict": judgement.verdict.value, "counts": judgement.is_counted}
+    said.update({"reason": judgement.reason.value} if judgement.reason else {})
+    said.update({"why": judgement.why} if judgement.why else {})
+    if judgement.ring:
+        said["ring"] = [dict(step_json(waiting.place, found), waits_for=waiting.lock, mode=waiting.mode, holds=[
+            dict(place_json(held.event, found), lock=held.key, mode=held.mode) for held in waiting.holds]) for waiting in judgement.ring.waits]
+        said["schedule"] = [step_json(place, found) for place in judgement.ring.schedule]
+        said["because"] = [forced_json(forced, found) for forced in judgement.ring.because]
+    return said
+
+
+def place_json(event: Event, found: Found) -> dict:
+    return {"file": event.file, "record": event.record, "places": frames_of(event, found)}
+
+
+def step_json(place: Place, found: Found) -> dict:
+    return dict({"task": place.task}, **place_json(place.event, found))
+
+
+def forced_json(forced: Forced, found: Found) -> dict:
+    said = dict({"task": forced.task, "by": forced.by}, **(place_json(forced.event, found) if forced.event else {}))
+    return dict(said, after=step_json(forced.after, found)) if forced.after else said
 
 
 def handler_json(handler: Handler, symbols: Symbols) -> dict:
@@ -125,7 +152,7 @@ def json_of_run(found: Found) -> str:
     """One line for each finding, the new ones first."""
     counts: dict[str, int] = {}
     for finding in found.new:
-        counts[finding.kind.value] = counts.get(finding.kind.value, 0) + 1
+        counts[finding.verdict.value] = counts.get(finding.verdict.value, 0) + 1
     lines = [compact(finding_json(finding, found)) for finding in found.new + found.known]
     rest = {"blocked": [blocked_json(thread, found) for thread in found.blocked],
             "breaches": [breach_json(breach, found) for breach in found.breaches + found.known_breaches], "waiting": found.waiting,

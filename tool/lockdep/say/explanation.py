@@ -9,6 +9,7 @@ from ..places.sources import Sources
 from ..program.findings import Event, Finding, Order, Use
 from ..record.kernels import is_of_kernel
 from ..record.threads import name_of_thread
+from .judged import judged_lines
 from .lines import Item, Line
 from .steps import task_words
 
@@ -124,7 +125,7 @@ def block_of(finding: Finding, notes: list[str], seen: list[str], sources: Sourc
     """A finding: where it comes from, how it ends, what is noted of it, what was seen of it, and where its threads stood still."""
     lines = [head_line(finding)] + occurrence_lines(finding, sources) + task_lines(finding)
     lines += [Line("  note: " + note) for note in notes]
-    lines += [Line("  " + words) for words in seen]
+    lines += [Line("  " + words) for words in seen] + [Line("    " + words) for words in judged_lines(finding, sources)]
     lines += [Line("  " + words) for words in finding.happened.lines()] if finding.happened else []
     return lines + inner_lines(finding, sources)
 

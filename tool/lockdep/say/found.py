@@ -15,7 +15,6 @@ from ..places.places import traces_of_classes
 from ..places.sources import Sources
 from ..program.checker import text_answer
 from ..program.findings import Finding
-from ..program.kinds import Kind
 from ..record.summary import Summary
 from .groups import Group, groups_of
 from .verdict_words import remarks_of
@@ -63,16 +62,16 @@ class Found:
         return groups_of(self.findings)
 
     def remarks(self, finding: Finding) -> list[str]:
-        """What else is said about a finding: its notes, and what it was seen between."""
+        """What else is said about a finding: its notes, and its verdict."""
         if self.confirmed is not None:
             return self.confirmed.get(finding.number, [])
         return remarks_of(finding, self.recorded)
 
     def level(self, finding: Finding) -> str:
-        """SARIF's level: by what the finding was seen between."""
+        """SARIF's level, by the verdict."""
         if finding in self.known or finding.is_note:
             return "note"
-        return "error" if finding.is_confirmed or finding.kind is Kind.PERHAPS else "warning"
+        return "error" if finding.is_counted else "warning"
 
     def reason_of(self, finding: Finding) -> str:
         """Why the tool's own list of libraries has a finding; empty if it doesn't."""

@@ -9,6 +9,7 @@ from ..base.words import escaped
 from ..binaries.symbols import place_words
 from ..program.findings import Finding
 from .found import Found, moment
+from .judged import judged_lines
 from .steps import Step, sentence, steps_of, task_name, words_of_step
 
 
@@ -33,6 +34,7 @@ def failed_case(kind: str, name: str, message: str, lines: list[str]) -> str:
 def finding_case(finding: Finding, found: Found) -> str:
     """A failed case: the sentence, and each step with its place."""
     lines = [sentence(finding)] + [step_line(finding, step, found) for step in steps_of(finding)] + found.remarks(finding)
+    lines += ["  " + line for line in judged_lines(finding, found.sources)]
     lines += finding.happened.lines() if finding.happened else []
     return failed_case(finding.rule, finding.head, sentence(finding), lines)
 

@@ -12,13 +12,27 @@ from ..binaries.cplusplus import without_parameters
 from ..binaries.symbols import Frame, place_words
 from ..places.sources import Sources, has_changed
 from ..program.findings import Event, Finding
+from ..program.schedules import Ring
 from ..record.handlers import words_of_handler
 from ..record.threads import called
 from .explanation import inner_lines
 from .found import Found
+from .judged import called as called_task
+from .judged import judged_lines, ring_of, steps_of_ring
 from .steps import Step, events_of, sentence, steps_of, task_count, task_name, words_of_step
 
 REM_OF_TASK = 12  # how wide a task's column is, at least
+
+
+TABLE = """<div class="scroll" tabindex="0" role="region" aria-label="%s">
+<table class="tasks" style="min-width: %drem">
+<thead><tr><th class="time" scope="col" aria-label="Time">↓</th>%s</tr></thead>
+<tbody>
+%s<tr><td class="time"></td><td class="end" colspan="%d">Deadlock</td></tr>
+</tbody>
+</table>
+</div>
+"""
 
 
 def key_html(sources: Sources) -> Callable[[str], str]:
@@ -79,15 +93,7 @@ def task_table(finding: Finding, steps: list[Step], sources: Sources) -> str:
     """The tasks side by side: a column for each, with time running downwards."""
     tasks = task_count(steps)
     heads = "".join(task_head(finding, steps, task, sources) for task in range(tasks))
-    return """<div class="scroll" tabindex="0" role="region" aria-label="What the tasks of finding %d do">
-<table class="tasks" style="min-width: %drem">
-<thead><tr><th class="time" scope="col" aria-label="Time">↓</th>%s</tr></thead>
-<tbody>
-%s<tr><td class="time"></td><td class="end" colspan="%d">Deadlock</td></tr>
-</tbody>
-</table>
-</div>
-""" % (finding.number, REM_OF_TASK * tasks, heads, task_rows(finding, steps, sources), tasks)
+    return TABLE % ("What the tasks of finding %d do" % finding.number, REM_OF_TASK * tasks, heads, task_rows(finding, steps, sources), tasks)
 
 
 def excerpt_html(frame: Frame, event: Event, sources: Sources) -> str:
@@ -142,13 +148,37 @@ def stood_html(finding: Finding) -> str:
     return '<h3>Where its threads stood still</h3>\n<pre tabindex="0"><code>%s</code></pre>\n' % lines if lines else ""
 
 
+def schedule_html(finding: Finding, sources: Sources) -> str:
+    """The schedule in which the tasks stand still side by side, or the steps that keep them from it."""
+    ring = ring_of(finding)
+    if ring and ring.schedule:
+        return "<h3>The recorded steps that stand still, in another order</h3>\n" + ring_table(finding, ring, sources)
+    lines = "".join(escaped(line) + "\n" for line in judged_lines(finding, sources))
+    return '<h3>What keeps these steps apart</h3>\n<pre tabindex="0"><code>%s</code></pre>\n' % lines if lines else ""
+
+
+def ring_table(finding: Finding, ring: Ring, sources: Sources) -> str:
+    """The tasks of a ring side by side: what each takes and waits for at last."""
+    steps = steps_of_ring(ring)
+    tasks = list(dict.fromkeys(step.task for step in steps))
+    titles = {task: escaped(called_task(task, finding)) for task in tasks}
+    heads = "".join('<th scope="col">%s</th>' % titles[task] for task in tasks)
+    rows = ""
+    for number, step in enumerate(steps, 1):
+        place = escaped(place_words([bare(frame) for frame in sources.frames(step.event)[:1]]) or "record %d" % step.event.record)
+        said = '<span class="%s">%s</span><br>%s' % (step.verb.partition(" ")[0], escaped(step.words), place)
+        rows += '<tr><td class="time">%d</td>%s</tr>\n' % (number, "".join('<td data-task="%s">%s</td>' % (
+            titles[task], said if task == step.task else "") for task in tasks))
+    return TABLE % ("What the threads of finding %d do in another order" % finding.number, REM_OF_TASK * len(tasks), heads, rows, len(tasks))
+
+
 def finding_html(finding: Finding, found: Found, group: str = "") -> str:
     number, sources, steps = finding.number, found.sources, steps_of(finding)
     said = '<article id="finding-%d" aria-labelledby="head-%d">\n' % (number, number)
     said += '<h2 id="head-%d">%d. <code>%s</code></h2>\n' % (number, number, escaped(finding.head))
     said += "<p>%s</p>\n" % sentence(finding, key_html(sources))
     said += "".join('<p class="note">%s</p>\n' % escaped(as_sentence(remark)) for remark in found.remarks(finding)) + group
-    said += stood_html(finding) + (task_table(finding, steps, sources) + "<h3>The records</h3>\n" if steps else "")
+    said += stood_html(finding) + schedule_html(finding, sources) + (task_table(finding, steps, sources) + "<h3>The records</h3>\n" if steps else "")
     for place, event in enumerate(events_of(steps), 1):
         said += record_html("record-%d-%d" % (number, place), event, sources)
     said += inner_html(finding, sources) + lock_lines(finding, steps, sources)

@@ -15,9 +15,10 @@ if TYPE_CHECKING:
     from ..record.summary import Summary
 
 
-def end(home: str, path: str, ended: int, status: int, is_left: bool, accepted: Sequence[str] = ()) -> int:
-    """What follows when the command has ended: its traces are made, and what was seen is said. The result is the status of the whole recording: this one
-    if all is well, which for `record` is the one that the command has ended with."""
+def end(home: str, path: str, ended: int, status: int, is_left: bool, accepted: Sequence[str] = (), is_packed: bool = True) -> int:
+    """What follows when the command has ended: its traces are made, and what was seen is said. The recording itself is packed, unless something is left
+    that writes into it, or whoever calls this packs it. The result is the status of the whole recording: this one if all is well, which for `record` is
+    the one that the command has ended with."""
     from ..finish import traces
     from .seen import say_accepted, say_what_was_seen
     folder = Folder(path)
@@ -28,7 +29,7 @@ def end(home: str, path: str, ended: int, status: int, is_left: bool, accepted: 
     summary = traces.make(home, folder, read_settings(folder.raw, ""), ended)
     if is_left:
         write_error("record: %s/raw is kept: `lockdep record --finish %s` makes the traces again when they have ended" % (path, typed(path)))
-    else:
+    elif is_packed:
         traces.pack(folder)
     seen = say_what_was_seen(path, summary, ended, accepted=accepted)
     say_accepted(summary, accepted)
@@ -45,8 +46,17 @@ class Ended:
 
 
 def end_quietly(home: str, path: str, ended: int, is_left: bool, accepted: Sequence[str] = ()) -> Ended:
-    """The same for what goes on to judge the recording: nothing is said, but returned. The command's status isn't lost in that of the recording."""
-    return quietly(home, path, lambda: end(home, path, ended, 0, is_left, accepted))
+    """The same for what goes on to judge the recording, and packs it then: nothing is said, but returned. The command's status isn't lost in that of the
+    recording."""
+    return quietly(home, path, lambda: end(home, path, ended, 0, is_left, accepted, is_packed=False))
+
+
+def pack(path: str) -> None:
+    """Packs the recording itself, if it is there."""
+    from ..finish import traces
+    folder = Folder(path)
+    if folder.mark():
+        traces.pack(folder)
 
 
 def summary_quietly(home: str, path: str, accepted: Sequence[str] = ()) -> Ended:

@@ -111,7 +111,7 @@ class Report:
             return
         from ..ask.verdict import WITH_DEPTH, Recorded
         self.recorded = Recorded(self.asked.traces, self.recording.summary)
-        if any(finding.kind in WITH_DEPTH for finding in self.sorted.new):
+        if any(finding.level in WITH_DEPTH for finding in self.sorted.new):
             from ..ask.deeper import depths_of
             from ..base.room import Room
             with Room(self.recording.folder) as room:
@@ -246,6 +246,13 @@ class Report:
         if left:
             say("%s not shown here; `lockdep confirm %s` shows all" % (counted(left, "more finding is", "more findings are"), self.recording.folder))
 
+    def say_uncounted(self) -> None:
+        """Which findings don't make the status of --error-exitcode, by their verdicts."""
+        from collections import Counter
+        left = Counter(finding.verdict.words for finding in self.new if not finding.is_counted) if self.options.confirmed_only else Counter()
+        if left:
+            say("--confirmed-only doesn't count %s: %s" % (counted(sum(left.values()), "finding"), ", ".join("%d %s" % (number, words) for words, number in left.items())))
+
     def say_blocked(self) -> None:
         """Who is blocked, with the places of all that is named."""
         from .explanation import Annotator
@@ -271,6 +278,7 @@ class Report:
             self.say_of_known()
             if self.has_new:
                 self.explain()
+                self.say_uncounted()
             else:
                 say("%s was found but that a thread waited for a lock at the end" % nothing)
             if self.blocked:
@@ -302,7 +310,7 @@ class Report:
         """Whether what was found makes the status of --error-exitcode."""
         if self.is_hung or self.breaches or self.options.strict_known and self.sorted and (self.sorted.stale or self.sorted.moved):
             return True
-        return any(finding.is_confirmed or not self.options.confirmed_only for finding in self.new)
+        return any(finding.is_counted or not self.options.confirmed_only for finding in self.new)
 
     @property
     def is_judged_in_part(self) -> bool:

@@ -16,6 +16,7 @@ from ..program.checker import version
 from ..program.findings import Event, Finding
 from ..record.provoked import Happened, Stood
 from .found import HANG, Found
+from .judged import judged_lines, ring_of, step_line, steps_of_ring
 from .junit import step_words
 from .steps import Step, sentence, steps_of, task_count, task_name
 
@@ -119,11 +120,23 @@ def add_steps(result: dict, finding: Finding, sources: Sources) -> None:
         flows = [thread_flow(finding, all_steps, task, sources) for task in range(task_count(all_steps))]
         result["locations"] = [step_location(finding, waits[-1 if finding.handler else 0], sources)]
         result["relatedLocations"] = [dict(step_location(finding, step, sources), id=number) for number, step in enumerate(steps, 1)]
-        result["codeFlows"] = [{"threadFlows": [flow for flow in flows if flow["locations"]]}]
+        result["codeFlows"] = [{"threadFlows": [flow for flow in flows if flow["locations"]]}] + flows_of_ring(finding, sources)
+
+
+def flows_of_ring(finding: Finding, sources: Sources) -> list[dict]:
+    """The schedule in which the tasks stand still, if there is one: what each does at last, in the order of all."""
+    ring = ring_of(finding)
+    if not ring or not ring.schedule:
+        return []
+    steps = list(enumerate(steps_of_ring(ring), 1))
+    tasks = dict.fromkeys(step.task for _, step in steps)
+    return [{"message": {"text": "the recorded steps in another order, in which they stand still"}, "threadFlows": [
+        {"id": task, "locations": [{"location": location(step.event, step_line(step, finding, sources), sources), "executionOrder": number}
+                                   for number, step in steps if step.task == task]} for task in tasks]}]
 
 
 def finding_result(finding: Finding, found: Found) -> dict:
-    sentences = [finding.head + ".", sentence(finding)] + [as_sentence(remark) for remark in found.remarks(finding)]
+    sentences = [finding.head + ".", sentence(finding)] + [as_sentence(remark) for remark in found.remarks(finding) + judged_lines(finding, found.sources)]
     result = {"ruleId": finding.rule, "level": found.level(finding), "message": {"text": sarif_text(" ".join(sentences))},
               "partialFingerprints": {"lockdepLines/v1": fingerprint(finding.lines)}}
     if finding.rule in ALL_RULES:

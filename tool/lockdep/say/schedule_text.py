@@ -4,7 +4,7 @@ from __future__ import annotations
 from ..base.words import class_of_lock, counted
 from ..places.places import Places
 from ..places.sources import Sources
-from ..program.schedules import POSSIBLE, History, Reason, Ring, Waiting
+from ..program.schedules import APART, NOT_KNOWN, NOT_SHOWN, POSSIBLE, Forced, History, Ring, Waiting
 from .explanation import Annotator
 from .lines import Line
 from .steps import MODES, awaited
@@ -14,9 +14,9 @@ BY_A_JOIN = "possible by a join"  # of a ring with a join: it is false if the th
 HEADS = {
     POSSIBLE: "these recorded steps, in another order, stand still",
     BY_A_JOIN: "these recorded steps, in another order, stand still, unless the thread is joined only when it has said that it is done",
-    "kept apart": "in this recording starts, joins and messages keep these steps apart",
-    "not shown": "no other order of the recorded steps stands still here",
-    "not known": "this wasn't tried to its end",
+    APART: "in this recording starts, joins and messages keep these steps apart",
+    NOT_SHOWN: "no other order of the recorded steps that keeps who takes a lock after whom stands still here",
+    NOT_KNOWN: "this wasn't tried to its end",
 }
 REASONS = {  # what a task has to do, or can't: the words for it, with its record, and with the other task's
     "ring": "{task} comes to record {record}",
@@ -50,7 +50,7 @@ def way_line(ring: Ring) -> Line:
     return Line("  until then %s%s" % (", then ".join(words), ", and %s before" % counted(others, "other task") if others else ""))
 
 
-def reason_line(reason: Reason) -> Line:
+def reason_line(reason: Forced) -> Line:
     record, after, other = (reason.event.record if reason.event else 0), (reason.after.event.record if reason.after else 0), reason.after and reason.after.task
     words = REASONS.get(reason.by, "{task}: " + reason.by).format(task=reason.task, record=record, after=after, other=other)
     return Line("  " + words, tuple(event for event in (reason.event, reason.after and reason.after.event) if event))

@@ -1,22 +1,36 @@
-"""What is said of a finding about what it was seen between, and what that takes from the notes of its classes."""
+"""The verdict of a finding in words, and what that takes from the notes of its classes."""
 from __future__ import annotations
 
-from ..ask.apart import apart_words
 from ..ask.verdict import WITH_DEPTH, Recorded, gate_of_all, type_of_key
 from ..base.words import name_in, plain_key, stands_for_several
 from ..program.findings import Finding, Gate
-from ..program.kinds import BETWEEN_LOCKS, SEEN, Kind
+from ..program.schedules import Ring
+from ..program.verdicts import OF_LEVELS, Judgement, Level, Reason, Verdict
 from .kernel_words import words_of_kernel
 
 UNDER_ITSELF = "; but a lock is taken under itself there"
-ONLY = {  # what follows the sentence: of a cycle, and of others
-    Kind.CLASSES: ("; no two locks were taken both ways", ", not between single locks"),
-    Kind.TYPES: (", not between classes",) * 2,
-    Kind.NESTED: (": a note, and no finding",) * 2,
+LEVELS = {Level.CLASSES: "between classes", Level.TYPES: "between types", Level.NESTED: "between types"}
+ONLY = {  # what follows, of a cycle, and of others
+    Level.CLASSES: ("; no two locks were taken both ways", ", not between single locks"),
+    Level.TYPES: (", not between classes",) * 2,
+    Level.NESTED: (", as one type nested in itself: a note, and no finding",) * 2,
 }
-LATE = "seen only when the signal's thread had taken its last lock"
 HAPPENED = "happened in run %d of `lockdep provoke`"
 TOO_MANY = "more than 256 keys lead to one another"
+SEVERAL = "%s is several locks"
+STOOD = "its threads stood still so when the process ended"
+POSSIBLE = "these recorded steps, in another order, stand still"
+BY_JOIN = POSSIBLE + ", unless the thread is joined only when it has said that it is done"
+NO_WAITS = "no order of the recorded steps has these threads wait for one another: "
+REASONS = {
+    Reason.ORDER: "these steps don't stand still while threads take each lock in the order in which they did; other orders aren't tried",
+    Reason.LIKE_THREADS: "others like the threads that did this may do it at the same time; too few of them did",
+    Reason.FEWER_THREADS: "fewer threads than it takes did this, and no others are known to be like them",
+    Reason.ONE_LOCK: "one lock was held each time",
+    Reason.NO_RING: NO_WAITS + "what else they hold, or that they read, keeps them from it",
+    Reason.TIMED: "only by waits with a time limit",
+    Reason.LATE: "only by a signal that comes after its thread took its last lock",
+}
 
 
 def locks_of(finding: Finding, inner: Finding) -> list[str]:
@@ -31,8 +45,8 @@ def locks_of(finding: Finding, inner: Finding) -> list[str]:
     return keys
 
 
-def seen_words(finding: Finding, inner: Finding, recorded: Recorded) -> str:
-    """Which locks, and what speaks against it."""
+def locks_words(finding: Finding, inner: Finding, recorded: Recorded) -> str:
+    """Which locks, and by whom."""
     keys = locks_of(finding, inner)
     words = ", ".join(plain_key(key) for key in keys)
     if inner.type != "circle":
@@ -43,36 +57,62 @@ def seen_words(finding: Finding, inner: Finding, recorded: Recorded) -> str:
     return words + (", under " + plain_key(gate.key) if gate else recorded.who_words(inner))
 
 
-def unknown_words(reason: str) -> str:
-    return "%s: %s" % (SEEN[Kind.UNKNOWN], reason or TOO_MANY)
-
-
 def verdict_of(finding: Finding, recorded: Recorded) -> str:
-    """What was seen of a finding, first of all that it happened; empty if nothing was asked."""
+    """The verdict of a finding, in a line: that it happened comes first. Empty if nothing was asked."""
     words = [HAPPENED % finding.happened.run] if finding.happened else []
-    seen = words_seen(finding, recorded)
-    return "; ".join(words + ([seen] if seen else []))
+    judged = judged_words(finding, recorded)
+    return "; ".join(words + ([judged] if judged else []))
 
 
-def words_seen(finding: Finding, recorded: Recorded) -> str:
-    """What a finding was seen between; empty if nothing was asked, or if the traces are of a kernel, whose names tell no single locks apart."""
-    between = finding.between
+def judged_words(finding: Finding, recorded: Recorded) -> str:
+    """What a finding was judged to be; empty if nothing was asked, or if the traces are of a kernel, whose names tell no single locks apart."""
+    between, judgement = finding.between, finding.judged or (finding.between and Judgement(OF_LEVELS[finding.between.level]))
     if not between or recorded.is_kernels():
         return ""
-    inner = between.finding
-    if between.kind in ONLY:
-        words = SEEN[between.kind] + ONLY[between.kind][finding.type != "circle"]
-    elif between.kind is Kind.UNKNOWN or not inner:
-        words = unknown_words(between.reason)
-    elif between.kind in BETWEEN_LOCKS:
-        is_late = between.kind is Kind.ENDED and finding.handler is not None and finding.handler.is_late
-        words = "%s: %s" % (LATE if is_late else SEEN[between.kind], seen_words(finding, inner, recorded))
+    if between.level in ONLY:
+        words = LEVELS[between.level] + ONLY[between.level][finding.type != "circle"]
     else:
-        several = [plain_key(key) for key in locks_of(finding, inner) if stands_for_several(name_in(key))]
-        words = "%s: %s; %s is several locks" % (
-            SEEN[Kind.PERHAPS], seen_words(finding, inner, recorded), several[0] if several else "#rest")
+        words = judgement.verdict.words + ": " + ": ".join(details_of(finding, between.finding, judgement, recorded))
     depth = recorded.depths.get(finding.number)
-    return words + (", and not if places are %d callers deep" % depth if depth and between.kind in WITH_DEPTH else "")
+    return words + (", and not if places are %d callers deep" % depth if depth and between.level in WITH_DEPTH else "")
+
+
+def details_of(finding: Finding, inner: Finding | None, judgement: Judgement, recorded: Recorded) -> list[str]:
+    """The single locks, and why the verdict is what it is."""
+    locks, ring = locks_words(finding, inner, recorded) if inner else "", judgement.ring
+    if ring:
+        keys = locks_of(finding, inner) if inner and is_of(ring, inner) else [waiting.lock for waiting in ring.waits]
+        locks = ", ".join(dict.fromkeys(map(plain_key, keys))) + ", by %d threads" % len({waiting.place.task for waiting in ring.waits})
+    return [words for words in (locks, why_words(finding, inner, judgement, recorded)) if words]
+
+
+def is_of(ring: Ring, inner: Finding) -> bool:
+    """Whether a ring has the single locks of a finding."""
+    return {waiting.lock for waiting in ring.waits} == {name_in(key) for key in inner.keys}
+
+
+def why_words(finding: Finding, inner: Finding | None, judgement: Judgement, recorded: Recorded) -> str:
+    """Why the verdict is what it is."""
+    if judgement.verdict is Verdict.HAPPENED:
+        return STOOD
+    if judgement.verdict in (Verdict.POSSIBLE, Verdict.BY_JOIN):
+        return POSSIBLE if judgement.verdict is Verdict.POSSIBLE else BY_JOIN
+    if judgement.verdict is Verdict.APART:
+        return "starts, joins and messages keep these steps apart in this recording"
+    several = several_words(finding, inner) if finding.level is Level.PERHAPS and inner else ""
+    if judgement.reason:
+        return NO_WAITS + several if several and judgement.reason is Reason.NO_RING else REASONS[judgement.reason]
+    if several:
+        return several
+    if finding.level is Level.UNKNOWN:
+        return judgement.why or finding.between.reason or TOO_MANY
+    return judgement.why or recorded.steps_words(inner)
+
+
+def several_words(finding: Finding, inner: Finding) -> str:
+    """Which lock's name stands for several."""
+    several = [plain_key(key) for key in locks_of(finding, inner) if stands_for_several(name_in(key))]
+    return SEVERAL % (several[0] if several else "#rest")
 
 
 def is_doubtful(gate: Gate, finding: Finding, recorded: Recorded) -> bool:
@@ -93,7 +133,7 @@ def notes_of(finding: Finding, recorded: Recorded) -> list[str]:
         if is_doubtful(gate, finding, recorded):
             notes[place] += "; but %s is several locks" % plain_key(gate.key)
     inner = finding.between.finding
-    is_under_itself = finding.kind in BETWEEN_LOCKS and inner and inner.type == "circle" and len(inner.orders) == 1
+    is_under_itself = finding.level is Level.LOCKS and inner and inner.type == "circle" and len(inner.orders) == 1
     if finding.only and is_under_itself and len(notes) > len(finding.gates):
         notes[-1] += UNDER_ITSELF
     return notes
@@ -105,11 +145,11 @@ def remarks_of(finding: Finding, recorded: Recorded) -> list[str]:
 
 
 def said_of(finding: Finding, recorded: Recorded) -> list[str]:
-    """What was seen of a finding: what is known of its signal, which of its threads never ran at the same time, and then the verdict."""
+    """What is known of a finding: of its signal, in which recordings it is, and then the verdict."""
     of_signal: list[str] = []
     if finding.handler:
         from .signal_text import remarks_of_signal
         of_signal = remarks_of_signal(finding, finding.handler)
     of_kernel = [words_of_kernel(finding)] if recorded.is_kernels() else []
-    said = recorded.seen_in(finding) + [apart_words(finding, recorded), verdict_of(finding, recorded)]
+    said = recorded.seen_in(finding) + [verdict_of(finding, recorded)]
     return of_signal + of_kernel + [words for words in said if words]
