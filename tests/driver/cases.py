@@ -24,6 +24,15 @@ def circle(*keys, **more):
     return dict(finding, **more)
 
 
+def circle_by(tasks, *keys, folder="t/objects", **more):
+    """A cycle through these keys, each order by the traces of these tasks alone: a number, or several."""
+    orders = []
+    for place, (key, by) in enumerate(zip(keys, tasks)):
+        traces = ["%s/task-%04d.csv" % (folder, task) for task in (by if isinstance(by, tuple) else (by,))]
+        orders.append(dict(order(key, "EN", keys[(place + 1) % len(keys)], traces[0]), traces=sightings(traces, len(traces))))
+    return circle(*keys, **dict({"orders": orders}, **more))
+
+
 def between(kind, inner=None):
     return {"kind": kind, "finding": inner} if inner else {"kind": kind}
 

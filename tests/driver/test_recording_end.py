@@ -40,7 +40,14 @@ class Ends(unittest.TestCase):
         self.assertEqual((ended.status, ended.messages[0]), (2, "record: 1 process, 0 threads, 0 operations, 0 classes"))
         self.assertEqual(ended.summary.reasons(), ["no-pthread-import"])
         self.assertIsNone(saying.kept)
-        self.assertFalse(os.path.exists(os.path.join(self.path, "raw")))
+        self.assertTrue(os.path.exists(os.path.join(self.path, "raw")))  # (what judges the recording reads it, and packs it then)
+        recorded.pack(self.path)
+        self.assertEqual([os.path.exists(os.path.join(self.path, name)) for name in ("raw", "raw.tar.gz")], [False, True])
+
+    def test_what_is_no_recording_isnt_packed(self):
+        os.makedirs(os.path.join(self.path, "raw"))
+        recorded.pack(self.path)
+        self.assertTrue(os.path.exists(os.path.join(self.path, "raw")))
 
     def test_a_program_with_locks(self):
         source = os.path.join(TOP, "recorders", "pthread", "tests", "abba.c")
@@ -52,6 +59,11 @@ class Ends(unittest.TestCase):
         self.assertEqual((ended.status, ended.messages[-1]), (0, "record: 1 process, 2 threads, 8 operations, 2 classes"))
         self.assertEqual(ended.summary.left_out(), [])
         self.assertTrue(os.path.exists(os.path.join(self.path, "raw")))
+        recorded.pack(self.path)  # as who has judged it does
+        self.assertFalse(os.path.exists(os.path.join(self.path, "raw")))
+        self.assertTrue(os.path.exists(os.path.join(self.path, "raw.tar.gz")))
+        recorded.pack(self.path)  # which leaves it as it is
+        self.assertTrue(os.path.exists(os.path.join(self.path, "raw.tar.gz")))
 
     def test_a_recording_that_is_gone(self):
         os.mkdir(self.path)

@@ -5,13 +5,13 @@ import tempfile
 import unittest
 
 from cases import between, circle, finding, findings, order, sightings
+from lockdep.ask.timed import gone_without, marked_in, with_tries
 from lockdep.ask.verdict import Recorded, by_importance
-from lockdep.ask.weak import by_verdict, gone_without, with_tries
 from lockdep.base.saying import Refusal
 from lockdep.known.known import Sorted
 from lockdep.places.sources import Sources
 from lockdep.program.findings import Event, findings_of
-from lockdep.program.kinds import Kind
+from lockdep.program.verdicts import Judgement, Level, Reason, Verdict
 from lockdep.record.summary import Summary, parse
 from lockdep.record.threads import called
 from lockdep.say.explanation import thread_of
@@ -63,7 +63,7 @@ class Reading(unittest.TestCase):
         self.assertEqual(one.head, "circle a/0 EN b/0 EN a/0")
         self.assertEqual([(event.file[-8:], event.record) for event in one.own_events()],
                          [("0001.csv", 3), ("0001.csv", 2), ("0002.csv", 3), ("0002.csv", 2)])
-        self.assertIs(one.kind, Kind.CLASSES)
+        self.assertIs(one.level, Level.CLASSES)
 
     def test_what_is_no_json_of_a_version_that_is_read_is_refused(self):
         for raw in (b"", b"[]", b'{"lockdep":4,"findings":[]}', b'{"lockdep":2}', b'{"lockdep":2,"findings":[{"type":"circle"}]}',
@@ -74,17 +74,29 @@ class Reading(unittest.TestCase):
     def test_a_nested_type_is_a_note(self):
         one = finding(circle("a/0", between=between("nested")))
         self.assertTrue(one.is_note)
-        self.assertFalse(one.is_confirmed)
+        self.assertFalse(one.is_counted)
 
     def test_what_confirmed_only_counts(self):
-        counted = [kind.value for kind in Kind if finding(circle("a/0", between=between(kind.value))).is_confirmed]
-        self.assertEqual(counted, ["happened", "locks", "unknown"])
+        of_levels = [level.value for level in Level if finding(circle("a/0", between=between(level.value))).is_counted]
+        self.assertEqual(of_levels, ["locks", "perhaps", "unknown"])
+        said = findings([circle("a/0", between=between("locks")) for _ in Verdict])
+        for one, verdict in zip(said, Verdict):
+            one.judged = Judgement(verdict)
+        self.assertEqual([one.verdict.value for one in said if one.is_counted], ["happened", "possible", "not-known"])
 
     def test_one_confirmed_finding_makes_the_status(self):
-        for kinds, status in (("perhaps", "locks"), 9), (("locks", "perhaps"), 9), (("perhaps", "classes"), 0):
+        possible, by_join, apart, classes = map(Judgement, (Verdict.POSSIBLE, Verdict.BY_JOIN, Verdict.APART, Verdict.CLASSES))
+        order, one_lock = Judgement(Verdict.NOT_SHOWN, Reason.ORDER), Judgement(Verdict.NOT_SHOWN, Reason.ONE_LOCK)
+        for judged, status in ((apart, possible), 9), ((possible, apart), 9), ((by_join, one_lock, classes), 0), ((one_lock, order), 9), ((by_join,), 0):
             report = Report(Recording("", Summary()), ReportOptions(error_exitcode=9, confirmed_only=True), None)
-            report.sorted = Sorted(findings([circle(kind + "/0", between=between(kind)) for kind in kinds]))
-            self.assertEqual(report.status, status, kinds)
+            report.sorted = Sorted(findings([circle("%d/0" % number, between=between("locks")) for number in range(len(judged))]))
+            for one, judgement in zip(report.sorted.new, judged):
+                one.judged = judgement
+            self.assertEqual(report.status, status, judged)
+
+
+def rank_of(judgement):
+    return judgement.verdict, judgement.is_counted
 
 
 class Verdicts(unittest.TestCase):
@@ -94,12 +106,12 @@ class Verdicts(unittest.TestCase):
         return verdict_of(finding(circle("a/0", "b/0", between=between(kind, inner), **more)), self.recorded)
 
     def test_by_how_many_threads(self):
-        self.assertEqual(self.said("locks", circle("a#1/0", "b#2/0")), "seen between locks: a#1, b#2, by 2 threads")
+        self.assertEqual(self.said("locks", circle("a#1/0", "b#2/0")), "not known: a#1, b#2, by 2 threads")
 
     def test_threads_that_a_trace_stands_for_count(self):
         recorded = Recorded([], stands_for(4094))
         one = finding(circle("a/0", "b/0", between=between("locks", circle("a#1/0", "b#2/0"))))
-        self.assertEqual(verdict_of(one, recorded), "seen between locks: a#1, b#2, by 4096 threads")
+        self.assertEqual(verdict_of(one, recorded), "not known: a#1, b#2, by 4096 threads")
 
     def test_threads_of_traces_that_say_the_same_count(self):
         with tempfile.TemporaryDirectory() as folder:
@@ -121,12 +133,12 @@ class Verdicts(unittest.TestCase):
                                           (2, Summary(parse("threads-alike 534\n")), "by 2 threads"), (0, stands_for(40), "by 43 threads")):
                 inner = circle("a#1/0", "b#2/0", orders=[order("a#1/0", "EN", "b#2/0", traces[first]), order("b#2/0", "EN", "a#1/0", traces[2])])
                 said = verdict_of(finding(circle("a/0", "b/0", between=between("locks", inner))), Recorded(traces, summary))
-                self.assertEqual(said, "seen between locks: a#1, b#2, " + words)
+                self.assertEqual(said, "not known: a#1, b#2, " + words)
 
     def test_by_one_thread(self):
         inner = circle("a#1/0", "b#2/0", only="t/objects/task-0001.csv")
         inner["orders"] = [order("a#1/0", "EN", "b#2/0"), order("b#2/0", "EN", "a#1/0", record=7, since=6)]
-        self.assertEqual(self.said("locks", inner), "seen between locks: a#1, b#2, by one thread")
+        self.assertEqual(self.said("locks", inner), "not known: a#1, b#2, by one thread")
 
     def test_one_thread_has_several_traces_with_runs_of_its_handlers(self):
         with tempfile.TemporaryDirectory() as folder:
@@ -140,16 +152,16 @@ class Verdicts(unittest.TestCase):
                 orders = [dict(order("a#1/0", "EN", "b#2/0", own), traces=sightings([own], 1)),
                           dict(order("b#2/0", "EN", "a#1/0", run), traces=sightings(traces, count))]
                 one = finding(circle("a/0", "b/0", between=between("locks", circle("a#1/0", "b#2/0", orders=orders))))
-                self.assertEqual(verdict_of(one, Recorded([own, run, other])), "seen between locks: a#1, b#2, " + words, traces)
+                self.assertEqual(verdict_of(one, Recorded([own, run, other])), "not known: a#1, b#2, " + words, traces)
 
     def test_the_first_records_of_one_thread_alone_are_no_proof_of_one(self):
         inner = circle("a#1/0", "b#2/0")
         inner["orders"] = [order("a#1/0", "EN", "b#2/0"), order("b#2/0", "EN", "a#1/0", record=7, since=6)]
-        self.assertEqual(self.said("locks", inner), "seen between locks: a#1, b#2, by 2 threads")
+        self.assertEqual(self.said("locks", inner), "not known: a#1, b#2, by 2 threads")
 
     def test_under_a_gate_of_all_orders(self):
         inner = circle("a#1/0", "b#2/0", gates=[gate("g/0", "a#1/0", "b#2/0")])
-        self.assertEqual(self.said("locks", inner), "seen between locks: a#1, b#2, under g")
+        self.assertEqual(self.said("locks", inner), "not known: a#1, b#2, under g")
 
     def test_a_gate_of_some_orders_or_of_several_locks_is_none(self):
         some = circle("a#1/0", "b#2/0", "c/0", gates=[{"gate": "g/0", "orders": gate("g/0", "a#1/0", "b#2/0")["orders"][:1]}])
@@ -158,21 +170,21 @@ class Verdicts(unittest.TestCase):
 
     def test_perhaps_names_what_is_several_locks(self):
         self.assertEqual(self.said("perhaps", circle("a#1/0", "b#rest@7/1")),
-                         "perhaps seen between locks: a#1, b#rest@7/1, by 2 threads; b#rest@7/1 is several locks")
+                         "not known: a#1, b#rest@7/1, by 2 threads: b#rest@7/1 is several locks")
 
     def test_the_locks_begin_with_the_order_of_the_finding(self):
         inner = circle("b@1#2/0", "c#1/0", "a@2#1/0")
-        self.assertTrue(self.said("locks", inner).startswith("seen between locks: a@2#1, b@1#2, c#1, "))
+        self.assertTrue(self.said("locks", inner).startswith("not known: a@2#1, b@1#2, c#1, "))
 
     def test_a_lock_under_itself(self):
         one = finding(circle("p/0", between=between("locks", circle("p#1/0", only="x")), only="x", notes=["only in x"]))
-        self.assertEqual(verdict_of(one, self.recorded), "seen between locks: p#1 under itself, by 1 thread")
+        self.assertEqual(verdict_of(one, self.recorded), "not known: p#1 under itself, by 1 thread")
         self.assertEqual(notes_of(one, self.recorded), ["only in x; but a lock is taken under itself there"])
 
     def test_what_is_said_without_single_locks(self):
-        self.assertEqual(self.said("classes"), "seen only between classes; no two locks were taken both ways")
-        self.assertEqual(self.said("types"), "seen only between types, not between classes")
-        self.assertEqual(self.said("unknown"), "not known whether seen between locks: more than 256 keys lead to one another")
+        self.assertEqual(self.said("classes"), "between classes; no two locks were taken both ways")
+        self.assertEqual(self.said("types"), "between types, not between classes")
+        self.assertEqual(self.said("unknown"), "not known: more than 256 keys lead to one another")
 
     def test_what_is_gone_with_more_callers(self):
         recorded = Recorded([])
@@ -197,29 +209,29 @@ class Verdicts(unittest.TestCase):
         free = circle("c/0", "d/0", between=between("locks", circle("c/0", "d/0")))
         self.assertEqual([one.keys[0] for one in by_importance(findings([under, perhaps, free]))], ["c/0", "a/0", "e/0"])
 
+    def test_the_verdict_comes_first_then_what_counts(self):
+        judged = [Judgement(verdict) for verdict in Verdict if verdict is not Verdict.NOT_SHOWN]
+        judged[4:4] = [Judgement(Verdict.NOT_SHOWN, reason) for reason in (Reason.ORDER, Reason.LIKE_THREADS, Reason.FEWER_THREADS, Reason.TIMED)]
+        said = findings([circle("x/0", "y/0", between=between("locks")) for _ in judged])
+        for one, judgement in zip(said, judged):
+            one.judged = judgement
+        found = [one.judged for one in by_importance(said[::-1])]
+        self.assertEqual(list(map(rank_of, found)), list(map(rank_of, judged)))
 
-    def test_weak_acquisitions_come_before_and_after_classes(self):
-        kinds = ["locks", "perhaps", "unknown", "ended-thread", "timed-ended-thread-or-new-lock", "timed", "timed-or-new-lock", "classes", "new-lock", "types"]
-        said = [circle(kind + "/0", "x/0", between=between(kind)) for kind in reversed(kinds)]
-        self.assertEqual([one.kind.value for one in by_importance(findings(said))], kinds)
+    def test_of_one_verdict_the_level_comes_first(self):
+        levels = ["locks", "perhaps", "unknown"]
+        said = [circle(level + "/0", "x/0", between=between(level)) for level in reversed(levels)]
+        self.assertEqual([one.level.value for one in by_importance(findings(said))], levels)
+        said = [circle(level + "/0", "x/0", between=between(level)) for level in ("nested", "types", "classes")]
+        self.assertEqual([one.level.value for one in by_importance(findings(said))], ["classes", "types", "nested"])
 
     def test_the_shortest_cycle_of_single_locks_comes_first(self):
         long, short = circle("o#1/0", "s#1/0", "t#1/0"), circle("s#1/0", "t#1/0")
         said = [circle("a/0", "s/0", "t/0", between=between("locks", long)), circle("o/0", "s/0", "t/0", between=between("locks", short))]
         self.assertEqual([one.keys[0] for one in by_importance(findings(said))], ["o/0", "a/0"])
 
-    def test_weak_acquisitions_are_said(self):
-        inner = circle("a#1/0", "b#2/0")
-        self.assertEqual(self.said("timed", inner), "seen only by timed waits: a#1, b#2, by 2 threads")
-        self.assertEqual(self.said("new-lock", inner), "seen only while a lock was new: a#1, b#2, by 2 threads")
-        self.assertEqual(self.said("timed-or-new-lock", inner),
-                         "seen only by timed waits or while a lock was new: a#1, b#2, by 2 threads")
-        self.assertEqual(self.said("ended-thread", inner), "seen only where the joined thread had ended: a#1, b#2, by 2 threads")
-        self.assertEqual(self.said("timed-ended-thread-or-new-lock", inner),
-                         "seen only by timed waits, where the joined thread had ended, or while a lock was new: a#1, b#2, by 2 threads")
 
-
-class Weak(unittest.TestCase):
+class Timed(unittest.TestCase):
     """Findings that need acquisitions which are tries in another answer."""
 
     def gone(self, left, *said):
@@ -229,13 +241,12 @@ class Weak(unittest.TestCase):
         trace = b'lockdep,1\nacq,a,0,w\nacq,"b,1",0,rr\nrel,"b,1",0\n'
         self.assertEqual(with_tries(trace, [3]), b'lockdep,2\nacq,a,0,w\nacq,"b,1",0,trr\nrel,"b,1",0\n')
 
-    def test_acquisitions_of_several_kinds_are_tries_together(self):
-        timed, new, ended = {"task-0001.csv": [3]}, {"task-0001.csv": [5], "task-0002.csv": [2]}, {"task-0002.csv": [7]}
-        both, late = {"task-0001.csv": [3, 5], "task-0002.csv": [2]}, {"task-0001.csv": [3], "task-0002.csv": [7]}
-        for weak, either, any in (((timed, new, {}), both, {}), ((timed, {}, {}), {}, {}), (({}, {}, ended), {}, {}), ((timed, {}, ended), {}, late),
-                                  ((timed, new, ended), both, {"task-0001.csv": [3, 5], "task-0002.csv": [2, 7]})):
-            of_kinds = dict(zip((Kind.TIMED, Kind.NEW, Kind.ENDED), weak))
-            self.assertEqual(by_verdict(of_kinds), {**of_kinds, Kind.TIMED_OR_NEW: either, Kind.TIMED_ENDED_OR_NEW: any})
+    def test_what_a_recording_marks_by_traces_and_ways(self):
+        with tempfile.TemporaryDirectory() as folder:
+            self.assertEqual(marked_in(folder, Reason.TIMED), {})
+            with open(os.path.join(folder, "weak"), "w") as file:
+                file.write("task-0001.csv 3 timed\ntask-0002.csv 2 late\ntask-0001.csv 5 timed\ntask-0002.csv 0 timed\ntask-0003.csv 4 new-lock\n")
+            self.assertEqual([marked_in(folder, reason) for reason in (Reason.TIMED, Reason.LATE)], [{"task-0001.csv": [3, 5]}, {"task-0002.csv": [2]}])
 
     def test_a_finding_is_gone_if_no_order_of_it_is_left(self):
         self.assertEqual(self.gone([], circle("a/0", "b/0")), [["a/0", "b/0"]])
@@ -274,7 +285,7 @@ class Shown(unittest.TestCase):
         said = [circle("a/0", "b/0", other, between=between("classes")) for other in ("c/0", "d/0", "e/0")]
         left, text = self.shown(said)
         self.assertEqual((left, text.count("\ncircle ")), (0, 1))
-        self.assertIn("  2 more findings have a/0 EN b/0:\n    circle a/0 EN b/0 EN d/0 EN a/0; seen only between classes; no two", text)
+        self.assertIn("  2 more findings have a/0 EN b/0:\n    circle a/0 EN b/0 EN d/0 EN a/0; between classes; no two", text)
 
     def test_the_rest_of_many_groups_is_counted(self):
         said = [circle("a%d/0" % number, "b%d/0" % number, between=between("classes")) for number in range(30)]

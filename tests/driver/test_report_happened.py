@@ -9,7 +9,7 @@ from lockdep.ask.verdict import Recorded, by_importance
 from lockdep.binaries.symbols import Address
 from lockdep.known.suppressions import Entry
 from lockdep.places.sources import Sources
-from lockdep.program.kinds import Kind
+from lockdep.program.verdicts import Judgement, Verdict
 from lockdep.record.provoked import Happened, Stood, read_provoked, write_provoked
 from lockdep.say.as_json import json_of_run
 from lockdep.say.found import Found
@@ -69,17 +69,19 @@ class WhatHappened(OfARecording):
             self.write("provoked.json", text)
             self.assertIsNone(self.taken("a/0", "b/0").happened, text)
 
-    def test_it_is_the_first_of_all_kinds(self):
-        others = [finding(circle("c/0", "d/0", between=between(kind.value, circle("c#1/0", "d/0")))) for kind in list(Kind)[1:]]
+    def test_it_is_the_first_of_all_verdicts(self):
+        others = [finding(circle("c/0", "d/0", between=between("locks", circle("c#1/0", "d/0")))) for _ in list(Verdict)[1:]]
+        for other, verdict in zip(others, list(Verdict)[1:]):
+            other.judged = Judgement(verdict)
         happened = self.taken("a/0", "b/0")
-        self.assertIs(list(Kind)[0], Kind.HAPPENED)
+        self.assertIs(list(Verdict)[0], Verdict.HAPPENED)
         self.assertEqual(by_importance(others[::-1] + [happened]), [happened] + others)
 
     def test_every_output_has_it(self):
         one = self.taken("a/0", "b/0")
         found = Found([one], [], Sources(), Recorded([]), [])
-        self.assertEqual(verdict_of(one, found.recorded), "happened in run 2 of `lockdep provoke`; seen only between classes; no two locks were taken both ways")
-        self.assertTrue(one.is_confirmed)
+        self.assertEqual(verdict_of(one, found.recorded), "happened in run 2 of `lockdep provoke`; between classes; no two locks were taken both ways")
+        self.assertTrue(one.is_counted)
         told = json.loads(json_of_run(found))
         self.assertEqual((told["counts"], told["findings"][0]["level"]), ({"happened": 1}, "error"))
         self.assertEqual(told["findings"][0]["happened"], {"run": 2, "threads": [
@@ -98,8 +100,8 @@ class WhatHappened(OfARecording):
         self.assertEqual(Found([], [one], Sources(), Recorded([]), []).level(one), "note")
 
     def test_a_list_excuses_nothing_that_happened_but_what_it_says_of_that(self):
-        for kind, is_excused in ((Kind.LOCKS, False), (Kind.CLASSES, False), (Kind.HAPPENED, True), (None, True)):
-            self.assertIs(Entry(1, "circle a/0 EN b/0", line="circle a/0 EN b/0", kind=kind).excuses(Kind.HAPPENED), is_excused)
+        for listed, is_excused in (("possible", False), ("between classes", False), ("happened", True), ("", True)):
+            self.assertIs(Entry(1, "circle a/0 EN b/0", line="circle a/0 EN b/0", listed=listed).excuses("happened"), is_excused)
 
 
 if __name__ == "__main__":

@@ -9,12 +9,13 @@ from lockdep.base.saying import Refusal
 from lockdep.base.words import type_of_class
 from lockdep.binaries.symbols import Address, Frame
 from lockdep.known.known import list_of, sort
-from lockdep.known.suppressions import entries_of, pattern_text
+from lockdep.known.suppressions import entries_of, pattern_text, strength
 from lockdep.known.taking_part import TakingPart
 from lockdep.places.places import Made
 from lockdep.places.sources import Sources
 from lockdep.places.where_made import Caller, is_same_path, place_of
 from lockdep.program.findings import Event
+from lockdep.program.verdicts import Judgement, Reason, Verdict
 from lockdep.say.report import hides_blocked
 
 
@@ -67,6 +68,13 @@ LINES = "circle a/0 EN b/0\ncircle b/0 EN a/0\n"
 
 def sorted_by(text, places=None, said=TWO, **more):
     return sort(findings(said), [], entries_of(text, "list"), Made_up(places or {}, **more))
+
+
+def judged_as(verdict, reason=None, *keys):
+    """A cycle between single locks with this verdict."""
+    said = findings([circle(*(keys or ("a/0", "b/0")), between=between("locks", circle("a#1/0", "b#1/0")))])
+    said[0].judged = Judgement(verdict, reason)
+    return said
 
 
 def keys(found):
@@ -184,24 +192,29 @@ class Hiding(unittest.TestCase):
             self.assertEqual(len(sorted_by("cycle %s\n" % text).new), left, text)
 
     def test_a_pattern_hides_no_stronger_verdict_and_none_that_is_unknown(self):
-        kinds = ("locks", "perhaps", "unknown", "ended-thread", "timed", "classes", "new-lock", "types")
-        inner = circle("a#1/0", "b#1/0")
-        for word, weaker in (("seen-between-locks", kinds), ("perhaps-seen-between-locks", kinds[1:]), ("seen-only-by-timed-waits", kinds[4:]),
-                             ("seen-only-between-classes", kinds[5:]), ("seen-only-between-types", kinds[7:])):
-            for kind in kinds:
-                result = sorted_by("cycle verdict:%s\n" % word, {}, [circle("a/0", "b/0", between=between(kind, inner))])
-                self.assertEqual(not result.new, kind in weaker, (word, kind))
-            self.assertEqual(len(sorted_by("cycle verdict:%s\n" % word).new), 2)
+        verdicts = list(Verdict)[1:]
+        for place, listed in enumerate(verdicts):
+            text = "cycle verdict:%s\n" % listed.value
+            for verdict in verdicts:
+                result = sort(judged_as(verdict), [], entries_of(text, "list"), Made_up({}))
+                self.assertEqual(not result.new, verdict in verdicts[place:], (listed, verdict))
+            self.assertEqual(len(sorted_by(text).new), 2)  # (of which nothing was asked)
         # A comment of --write-known below a pattern is none of its words.
-        said = [circle("a/0", "b/0", between=between("locks", inner))]
-        self.assertEqual(len(sorted_by("cycle verdict:seen-only-between-classes\n#   seen between locks\n", {}, said).new), 1)
+        text = "cycle verdict:between-classes\n#   possible\n"
+        self.assertEqual(len(sort(judged_as(Verdict.POSSIBLE), [], entries_of(text, "list"), Made_up({})).new), 1)
+
+    def test_the_reason_of_what_isnt_shown_is_no_verdict_of_its_own(self):
+        for reason in Reason:
+            for word, is_hidden in (("not-known", True), ("not-shown", True), ("kept-apart", False)):
+                found = judged_as(Verdict.NOT_SHOWN, reason)
+                self.assertEqual(not sort(found, [], entries_of("cycle verdict:%s\n" % word, "list"), Made_up({})).new, is_hidden)
 
     def test_a_pattern_of_a_verdict_that_is_none_is_refused(self):
-        for word in ("seen-between", "seen", "made-to-happen-by-`lockdep-provoke`", "seen-only-between-class?s"):
+        for word in ("seen-between-locks", "seen", "happened", "kept", "between-class?s", "possible-by-join"):
             with self.assertRaises(Refusal) as raised:
                 entries_of("\ncycle class:a verdict:%s\n" % word, "list")
-            self.assertTrue(raised.exception.line.startswith(
-                "list: line 2 has a `verdict:` that is none; the verdicts are seen-between-locks, perhaps-seen-between-locks, "), raised.exception.line)
+            self.assertEqual(raised.exception.line, "list: line 2 has a `verdict:` that is none; the verdicts are possible, possible-by-a-join, not-known, "
+                             "not-shown, kept-apart, between-classes")
 
     def test_a_pattern_needs_a_module_of_all_locks(self):
         places = {name: ("init", []) for name in ("a", "b")}  # (in files of the same names)
@@ -312,26 +325,29 @@ class OtherLocks(unittest.TestCase):
         self.assertEqual(keys(sorted_by(text, {"a": ("static", Frame("", "/elsewhere/src/s.c", 3, ""))}).new), ["c/0"])
 
     def test_a_stronger_verdict_is_new(self):
-        kinds = ("locks", "perhaps", "unknown", "classes", "types", "nested")
-        inner = circle("a#1/0", "b#1/0")
-        for place, listed in enumerate(kinds):
-            for now in kinds:
-                said = [circle("a/0", "b/0", between=between(now, inner))]
-                _, result = self.list_then([circle("a/0", "b/0", between=between(listed, inner))], {}, said)
-                self.assertEqual(bool(result.new), now in kinds[:place], (listed, now))
-        self.assertIn("it was seen only between types, as one type nested in itself, and is now seen only between types, so that entry hides nothing",
-                      self.list_then([circle("a/0", between=between("nested"))], {}, [circle("a/0", between=between("types"))])[1].stale[0])
+        verdicts = list(Verdict)[1:]
+        for place, listed in enumerate(verdicts):
+            text = list_of(judged_as(listed, Reason.ORDER), "", Made_up({}))
+            self.assertIn("\n#   %s\n" % listed.words, text)
+            for now in verdicts:
+                result = sort(judged_as(now, Reason.ORDER), [], entries_of(text, "list"), Made_up({}))
+                by_chance = verdicts[:4]  # possible, by a join, not known, not shown: one run gives this one, and another run that one
+                self.assertEqual(bool(result.new), now in verdicts[:place] and not (listed in by_chance and now in by_chance), (listed, now))
+        for reason, is_new in ((Reason.ORDER, False), (Reason.LIKE_THREADS, False), (Reason.ONE_LOCK, True), (Reason.TIMED, True), (Reason.FEWER_THREADS, True)):
+            text = list_of(judged_as(Verdict.NOT_SHOWN, reason), "", Made_up({}))
+            self.assertEqual(text.splitlines()[2], "#   not shown" + (", and not counted" if is_new else ""))
+            self.assertEqual(bool(sort(judged_as(Verdict.POSSIBLE), [], entries_of(text, "list"), Made_up({})).new), is_new, reason)
+            self.assertEqual(sort(judged_as(Verdict.APART), [], entries_of(text, "list"), Made_up({})).new, [])
+        result = sort(judged_as(Verdict.POSSIBLE), [], entries_of(list_of(judged_as(Verdict.APART), "", Made_up({})), "list"), Made_up({}))
+        self.assertIn("it was kept apart, and is now possible, so that entry hides nothing; --write-known writes it again", result.stale[0])
 
-    def test_what_is_mixed_is_as_strong_as_its_strongest_part(self):
-        inner, any = circle("a#1/0", "b#1/0"), "timed-ended-thread-or-new-lock"
-        for listed, now, is_new in (("timed", "timed-or-new-lock", False), ("timed-or-new-lock", "timed", False),
-                                    ("timed-or-new-lock", "new-lock", False), ("new-lock", "timed-or-new-lock", True),
-                                    ("classes", "timed-or-new-lock", True), ("timed-or-new-lock", "classes", False),
-                                    ("ended-thread", any, False), (any, "ended-thread", False), (any, "timed", False), ("timed", any, True),
-                                    ("timed", "ended-thread", True), ("ended-thread", "locks", True)):
-            said = [circle("a/0", "b/0", between=between(now, inner))]
-            _, result = self.list_then([circle("a/0", "b/0", between=between(listed, inner))], {}, said)
-            self.assertEqual(bool(result.new), is_new, (listed, now))
+    def test_a_list_of_an_earlier_version(self):
+        for words, listed in (("seen between locks", Verdict.POSSIBLE), ("not known whether seen between locks", Verdict.POSSIBLE),
+                              ("seen only between classes", Verdict.CLASSES), ("seen only between types, as one type nested in itself", Verdict.CLASSES)):
+            text = LINES.replace("\n", "\n#   %s\n" % words)
+            for verdict in list(Verdict)[1:]:
+                result = sort(judged_as(verdict), [], entries_of(text, "list"), Made_up({}))
+                self.assertEqual(not result.new, strength(verdict) >= strength(listed), (words, verdict))
 
     def test_a_list_without_verdicts_excuses_all(self):
         self.assertEqual(sorted_by("circle a/0 EN a/0\n", {}, [circle("a/0", between=between("locks", circle("a#1/0")))]).new, [])
@@ -416,14 +432,15 @@ class Writing(unittest.TestCase):
 
     def test_a_verdict_is_written_and_renewed(self):
         said = [circle("a/0", "b/0", between=between("classes"))]
-        text = list_of(findings(said), LINES.replace("\n", "\n#   seen between locks\n"), Made_up({}))
-        self.assertEqual(text, LINES.replace("\n", "\n#   seen only between classes\n"))
+        for old in ("possible", "not shown", "seen between locks", "seen only while a lock was new", "not known whether seen between locks"):
+            text = list_of(findings(said), LINES.replace("\n", "\n#   %s\n" % old), Made_up({}))
+            self.assertEqual(text, LINES.replace("\n", "\n#   between classes\n"), old)
 
     def test_what_is_written_anew_may_have_been_written_otherwise(self):
         said = [circle("a/0", "b/0", between=between("classes"))]
         old = LINES.replace("\n", "\r\n  #   a: static old.c:3 \r\n #   seen between locks\r\n")
         self.assertEqual([line.strip() for line in list_of(findings(said), old, Made_up({"a": at("one.c")})).split("\n")],
-                         LINES.replace("\n", "\n#   seen only between classes\n#   a: static one.c:3\n").split("\n"))
+                         LINES.replace("\n", "\n#   between classes\n#   a: static one.c:3\n").split("\n"))
 
     def test_comments_and_patterns_stay_and_what_is_gone_goes(self):
         old = "# ours\ncircle x/0 EN y/0\ncycle class:c class:d # why\n circle a/0 EN b/0\n#   a: static old.c:1\n"

@@ -18,7 +18,7 @@ from lockdep.cli.diff import sides_of_folder
 from lockdep.known.known import list_of, sort
 from lockdep.known.suppressions import entries_of
 from lockdep.places.sources import sources_of
-from lockdep.program.kinds import Kind
+from lockdep.program.verdicts import Level, Reason, Verdict
 from lockdep.record.handlers import Handler, handlers_in
 from lockdep.record.summary import Summary, parse, read
 from lockdep.say import report as reporting, seen
@@ -44,7 +44,7 @@ DOUBLE = """double SIGUSR1:on_usr1 table/0
   if SIGUSR1 comes in while a thread holds table there, the handler waits for the thread that it interrupted
   SIGUSR1 was sent to the process: any thread may get it
   to mend it: block SIGUSR1 around table, or let the handler only set a flag or write to a pipe
-  seen between locks: table
+  not known: table: the order of steps doesn't say when a signal may come in
 """
 EDEADLK = "  a thread that holds table for writing gets EDEADLK of glibc when it asks for it again, unless the signal comes in between taking it and " \
     "noting the writer, or between clearing the writer and releasing it: a handler that ignores that releases the writer's lock"
@@ -58,8 +58,10 @@ INVERSION = """inversion SIGALRM:on_alarm stats/0 pool/0
   SIGALRM comes in at thread 1, and its handler waits for stats
   SIGALRM was sent to single threads alone: only these, and threads that run the same function, count
   to mend it: block SIGALRM around pool, don't take pool under stats, or let the handler only set a flag or write to a pipe
-  seen between locks: stats, pool
+  not known: stats, pool: the order of steps doesn't say when a signal may come in
 """
+GONE = "the recording has no raw.tar.gz, and so no order of its steps"
+UNORDERED = ": the order of steps doesn't say when a signal may come in"
 SUMMARY = "processes 1\nthreads 2\noperations 8\nevents 8\nclasses 3\n"
 
 
@@ -161,23 +163,23 @@ class Told(OfHandlers):
         self.handlers(USR1)
         self.write("signals/threads", "task-0001.csv 1\ntask-0002.csv 1\ntask-0003.csv 2\n")
         self.set_of(1, (("off,hardirq", ""),) + there, (("enter,hardirq", ""),) + back + (("leave", ""),))
-        return [line for line in self.confirmed()[1].split("\n") if line.startswith("  seen between locks: pool, table")]
+        return [line for line in self.confirmed()[1].split("\n") if line.startswith("  not known: pool, table")]
 
     def test_a_run_of_a_handler_is_of_its_thread(self):
-        self.assertEqual(self.circle_with_a_run(), ["  seen between locks: pool, table, by one thread"])
+        self.assertEqual(self.circle_with_a_run(), ["  not known: pool, table, by one thread: " + GONE])
 
     def test_a_run_of_a_handler_and_another_thread(self):
         third = ("acq,pool,0,w", "server.c:50 other"), ("acq,table,0,w", "server.c:51 other"), ("rel,table,0", ""), ("rel,pool,0", "")
-        self.assertEqual(self.circle_with_a_run([third]), ["  seen between locks: pool, table, by 2 threads"])
+        self.assertEqual(self.circle_with_a_run([third]), ["  not known: pool, table, by 2 threads: " + GONE])
 
     def test_a_run_of_a_handler_and_another_thread_that_only_tries(self):
         third = ("acq,pool,0,w", "server.c:50 other"), ("acq,table,0,tw", "server.c:51 other"), ("rel,table,0", ""), ("rel,pool,0", "")
-        self.assertEqual(self.circle_with_a_run([third]), ["  seen between locks: pool, table, by one thread"])
+        self.assertEqual(self.circle_with_a_run([third]), ["  not known: pool, table, by one thread: " + GONE])
 
     def test_without_the_numbers_of_threads_each_trace_is_one(self):
         self.circle_with_a_run()
         os.remove(os.path.join(self.folder, "signals/threads"))
-        self.assertIn("\n  seen between locks: pool, table, by 2 threads\n", self.confirmed()[1])
+        self.assertIn("\n  not known: pool, table, by 2 threads: %s\n" % GONE, self.confirmed()[1])
 
     def two_at_once(self, takes="acq,pool,0,w"):
         """One thread takes pool, where the handler that takes table comes in, and another one table, where the handler that takes pool does."""
@@ -241,7 +243,7 @@ double SIGTERM:server+10 libc:malloc/0
   if SIGTERM comes in during such a call, the handler waits for ever, or the heap is damaged
   SIGTERM was sent to the process: any thread may get it
   to mend it: let the handler only set a flag or write to a pipe
-  seen between locks: libc:malloc
+  not known: libc:malloc: the order of steps doesn't say when a signal may come in
 """)
 
     def inside_pool(self, *records, tries="acq,pool,0,tw", **about):
@@ -266,14 +268,21 @@ double SIGTERM:server+10 libc:malloc/0
     def test_a_wait_of_the_handler_that_gives_up(self):
         self.both()
         self.write("signals/1/weak", "task-0002.csv 3 timed\n")
-        seen_in = {finding.type: finding.kind for finding in self.findings()}
-        self.assertEqual(seen_in, {"double": Kind.TIMED, "inversion": Kind.LOCKS})
-        self.assertIn("\n  seen only by timed waits: table\n", self.confirmed()[1])
+        judged = {finding.type: (finding.verdict, finding.judged.reason) for finding in self.findings()}
+        self.assertEqual(judged, {"double": (Verdict.NOT_SHOWN, Reason.TIMED), "inversion": (Verdict.NOT_KNOWN, None)})
+        self.assertIn("\n  not shown: table: only by waits with a time limit\n", self.confirmed()[1])
 
     def test_a_wait_of_other_code_that_gives_up(self):
         self.both()
         self.write("signals/1/weak", "task-0001.csv 2 timed\n")
-        self.assertEqual({finding.kind for finding in self.findings()}, {Kind.LOCKS})
+        self.assertEqual({finding.verdict for finding in self.findings()}, {Verdict.NOT_KNOWN})
+
+    def test_a_signal_that_comes_when_its_thread_has_taken_its_last_lock(self):
+        self.both()
+        self.write("signals/1/weak", "task-0002.csv 3 late\n")
+        judged = {finding.type: (finding.verdict, finding.judged.reason) for finding in self.findings()}
+        self.assertEqual(judged, {"double": (Verdict.NOT_SHOWN, Reason.LATE), "inversion": (Verdict.NOT_KNOWN, None)})
+        self.assertIn("\n  not shown: table: only by a signal that comes after its thread took its last lock\n", self.confirmed()[1])
 
     def test_readers_and_tries_are_named(self):
         self.handlers(USR1)
@@ -325,15 +334,15 @@ double SIGTERM:server+10 libc:malloc/0
     def test_json(self):
         self.both()
         said = json.loads(self.form("json"))
-        self.assertEqual(said["counts"], {"locks": 2})
+        self.assertEqual(said["counts"], {"not-known": 2})
         double, inversion = said["findings"]
         told = ("type", "irq", "lines", "signal", "handler", "sent_to", "narrow", "level", "verdict")
         self.assertEqual([double[name] for name in told], [
             "double", "hardirq", ["double SIGUSR1:on_usr1 table/0"], "SIGUSR1", {"name": "on_usr1", "file": "/src/server.c", "line": 30}, "process",
-            False, "error", "seen between locks: table"])
+            False, "error", "not known: table" + UNORDERED])
         self.assertEqual([inversion[name] for name in told], [
             "inversion", "hardirq", ["inversion SIGALRM:on_alarm stats/0 pool/0"], "SIGALRM",
-            {"name": "on_alarm", "file": "/src/server.c", "line": 60}, "threads", False, "error", "seen between locks: stats, pool"])
+            {"name": "on_alarm", "file": "/src/server.c", "line": 60}, "threads", False, "error", "not known: stats, pool" + UNORDERED])
         self.assertEqual(double["used"]["file"], os.path.join(self.folder, "signals/1/task-0002.csv"))
         self.assertEqual(double["between"]["finding"]["lines"], ["double SIGUSR1:on_usr1 table/0"])
         self.assertEqual(said["signals"], {"never_ran": [], "ran": [
@@ -413,8 +422,9 @@ class Judged(OfHandlers):
         self.set_of(1, [("acq,table#1,0,w", "server.c:41 insert")],
                     [("enter,hardirq", ""), ("acq,table#2,0,w", "server.c:12 on_usr1"), ("rel,table#2,0", ""), ("leave", "")])
         found = self.findings()
-        self.assertEqual([(finding.head, finding.kind, finding.is_confirmed) for finding in found], [
-            ("inversion SIGALRM:on_alarm stats/0 pool/0", Kind.LOCKS, True), ("double SIGUSR1:on_usr1 table/0", Kind.CLASSES, False)])
+        self.assertEqual([(finding.head, finding.level, finding.verdict, finding.is_counted) for finding in found], [
+            ("inversion SIGALRM:on_alarm stats/0 pool/0", Level.LOCKS, Verdict.NOT_KNOWN, True),
+            ("double SIGUSR1:on_usr1 table/0", Level.CLASSES, Verdict.CLASSES, False)])
         self.assertEqual(self.confirmed("--strict")[0], 1)
         self.assertIn("  taken with SIGUSR1 unblocked: insert at server.c:41 takes table#1", self.confirmed()[1].split("\n"))
 
@@ -529,8 +539,8 @@ class Judged(OfHandlers):
     def test_two_recordings_beside_each_other(self):
         self.both()
         sides = sides_of_folder(self.folder)
-        self.assertEqual([(side.head, side.seen) for side in sides], [("double SIGUSR1:on_usr1 table/0", "seen between locks: table"),
-                                                                     ("inversion SIGALRM:on_alarm stats/0 pool/0", "seen between locks: stats, pool")])
+        self.assertEqual([(side.head, side.seen) for side in sides], [("double SIGUSR1:on_usr1 table/0", "not known: table" + UNORDERED),
+                                                                     ("inversion SIGALRM:on_alarm stats/0 pool/0", "not known: stats, pool" + UNORDERED)])
 
 
 class Known(OfHandlers):
@@ -560,10 +570,10 @@ class Known(OfHandlers):
         text = list_of(findings, "# mine\n", sources_of(findings, [self.folder]))
         self.assertEqual(text, """# mine
 double SIGUSR1:on_usr1 table/0
-#   seen between locks
+#   not known
 #   table: static server.c:3
 inversion SIGALRM:on_alarm stats/0 pool/0
-#   seen between locks
+#   not known
 #   stats: static server.c:4
 #   pool: static server.c:5
 """)

@@ -152,13 +152,22 @@ class Blocked(unittest.TestCase):
                 with open(os.path.join(folder, "objects", "task-%04d.csv" % number), "w") as file:
                     file.write("lockdep,2\n" + "".join("rel,%s,0\n" % word[1:] if word[0] == "-" else "acq,%s,0,w\n" % word for word in trace.split()))
                 open(os.path.join(folder, "task-%04d.csv" % number), "w").close()
-            return [thread.sentence for thread in blocked_threads(ask_about_threads(folder), Summary(parse(summary)))]
+            self.blocked = blocked_threads(ask_about_threads(folder), Summary(parse(summary)))
+            return [thread.sentence for thread in self.blocked]
 
     def test_two_threads_that_wait_for_each_other(self):
         summary = "waiting 2\n  task-0001 waits for b, holding a\n  task-0002 waits for a, holding b\nat-exit 0\n"
         self.assertEqual(self.made("x -x a#1 b#1", "b#1 a#1", summary=summary), [
                          "task-0001 waits for b#1, which task-0002 holds since record 2 while it waits for a#1, which task-0001 holds "
                          "since record 4 while it waits for b#1: these threads stand still"])
+        self.assertEqual(self.blocked[0].orders, {("a#1", "b#1"), ("b#1", "a#1")})
+
+    def test_a_thread_that_waits_for_itself(self):
+        summary = "waiting 1\n  task-0001 waits for a, holding a\nat-exit 0\n"
+        self.assertEqual(self.made("b#1 a#1 a#1", summary=summary), ["task-0001 waits for a#1, which it holds itself since record 3: it stands still"])
+        self.assertEqual(self.blocked[0].orders, {("a#1", "a#1")})
+        self.assertEqual(self.made("a#rest a#rest", summary=summary), ["task-0001 waits for a#rest"])  # (which may be another one)
+        self.assertEqual(self.blocked[0].orders, frozenset())
 
     def test_a_holder_that_ended(self):
         summary = "waiting 1\n  task-0001 waits for m\nat-exit 0\nheld-at-end 1\n  task-0002 ended holding m\n"

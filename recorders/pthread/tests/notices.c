@@ -1,12 +1,12 @@
 /* A thread that is joined with the lock held with which it has said that it is done, in ways that differ by what it does, and by what the one
    that joins it has waited for. It goes on until it is waited for, but for `before`, `earlier`, `twice`, `many` and `pool`.
      signal    it signals the condition under the lock, and the joiner waits for that
-     broadcast, timed, clock, c11    the same by other calls; timed waits give up some times before
+     broadcast, timed, clock, c11    the same by other calls; timed waits give up twice before
      after     it signals when it has released the lock
      nested    it has another lock besides when it signals
      first     it signals another condition after that
      again     it has signalled the condition before, with the lock held
-     many      four threads, which are joined one after the other
+     many      four threads, which signal one after the other, each when the joiner waits again, and are joined so too
      pool      the same, but the first one has ended before the joiner takes the lock
      deep      the lock is recursive, and both have it twice
      cleans    it takes a lock of its own after that
@@ -51,6 +51,8 @@ static const char *way;
 static int done, wanted = 1; /* threads that have said so, with the lock held */
 static int numbers[MOST];    /* the system's */
 static int is_told, has_used, may_say;
+static int times_given_up;
+static int come, heard = -1; /* of several: how many have begun, and of how many the joiner knows as it waits */
 
 static int is(const char *name) { return strcmp(way, name) == 0; }
 
@@ -109,6 +111,16 @@ static void go_on(void) {
         pthread_mutex_lock(&own);
 }
 
+/* Until what has to come before is done. */
+static void await_turn(void) {
+    if (is("timed") || is("clock"))
+        while (get(&times_given_up) < 2)
+            sched_yield();
+    int turn = is("many") ? __atomic_fetch_add(&come, 1, __ATOMIC_SEQ_CST) : -1;
+    while (get(&heard) < turn)
+        sched_yield();
+}
+
 static void begin(void) {
     if (is("again")) {
         pthread_mutex_lock(&s->state);
@@ -120,8 +132,7 @@ static void begin(void) {
     set(&has_used, 1);
     if (is("below"))
         await(&may_say);
-    if (is("timed") || is("clock"))
-        usleep(20000);
+    await_turn();
 }
 
 /* Until who joins the thread waits for it, and doesn't look any more whether it ends. (One that has to end before doesn't, and of several none does.) */
@@ -191,14 +202,15 @@ THREAD(crosser, NEST(&own, &s->state))
 /* ---- The thread that joins. */
 
 static void wait_some_time(void) {
-    struct timespec soon = in_milliseconds(is("clock") ? CLOCK_MONOTONIC : CLOCK_REALTIME, 5);
-    if (is("clock"))
-        pthread_cond_clockwait(&s->changed, &s->state, CLOCK_MONOTONIC, &soon);
-    else
-        pthread_cond_timedwait(&s->changed, &s->state, &soon);
+    struct timespec end = in_milliseconds(is("clock") ? CLOCK_MONOTONIC : CLOCK_REALTIME, times_given_up < 2 ? 5 : 100000);
+    int answer = is("clock") ? pthread_cond_clockwait(&s->changed, &s->state, CLOCK_MONOTONIC, &end)
+                             : pthread_cond_timedwait(&s->changed, &s->state, &end);
+    if (answer == ETIMEDOUT)
+        set(&times_given_up, times_given_up + 1);
 }
 
 static void wait_once(void) {
+    set(&heard, done);
     if (is("timed") || is("clock"))
         wait_some_time();
     else
