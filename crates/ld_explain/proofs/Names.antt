@@ -8,7 +8,7 @@ pub use Rattle.std.proofs.lemmas.Result.{IfOk-weaker, on_ok_weaker}
 pub use Rattle.std.specs.Prelude.{IsErrAnd, Result}
 pub use Rattle.std.specs.Vec.Iter.{into_iter_items}
 pub use Rattle.std.specs.declared.alloc.AllocError.{AllocError}
-pub use Rattle.ld_explain.specs.Clauses.{AddsChoice, AddsEach, AddsFor, AddsSeen, AddsThose, Among, Are, AreAsked, AreChoices, AreFindings, AreFound, AreGates, AreGuards, AreGuardsOf, AreOrders, AreOriginsOf, AreSureNumbers, AreTakenIn, AreThose, AreVerdicts, AsksOrder, ChoosesCircle, ChoosesCircles, CirclesOfLocksAreSeen, ComesNext, Explains, ExplainsSeen, HasBetween, HasGuard, HasOrigin, IsAloneIn, IsAmong, IsCaseAt, IsChoiceFor, IsChoiceFrom, IsCircle, IsDoubleChoice, IsFirst, IsGate, IsGateBefore, IsGuardWith, IsInversionChoice, IsKept, IsKnown, IsLoneDouble, IsLoneInversion, IsLoneMember, IsMark, IsMember, IsNestedChoice, IsOriginOf, IsPart, IsPlan, IsSeenAmong, IsSeenAs, IsSeenAt, IsSure, Makes, OwnNamesChangeNothing, PutsGuard, PutsOrigin, SaysSeen, SeenBefore, SeenFrom, SeenHas, SeenTo, View, arrows_among, doubles_among, gate_in, inversions_among, is_among, key_by, kinds, last_key, level_of, levels_of, members_of, named_fact, no_key, plain, rank, slot_position, view_of}
+pub use Rattle.ld_explain.specs.Clauses.{AddsChoice, AddsEach, AddsFor, AddsSeen, AddsThose, Among, Are, AreAsked, AreChoices, AreFindings, AreFound, AreGates, AreGuards, AreGuardsOf, AreOrders, AreOriginsOf, AreSureNumbers, AreLevels, AreTakenIn, AreThose, AreVerdicts, AsksOrder, Borrows, ChoosesCircle, ChoosesCircles, CirclesOfLocksAreSeen, ComesNext, Explains, ExplainsSeen, HasBetween, HasGuard, HasOrigin, IsAloneIn, IsAmong, IsCaseAt, IsChoiceFor, IsChoiceFrom, IsCircle, IsDoubleChoice, IsFirst, IsGate, IsGateBefore, IsGuardWith, IsInversionChoice, IsKept, IsKnown, IsLoneDouble, IsLoneInversion, IsLoneMember, IsMark, IsMember, IsNestedChoice, IsOriginOf, IsPart, IsPlan, IsSeenAmong, IsSeenAs, IsSeenAt, IsSure, IsUnseenAt, Makes, NoCircleIsLost, NoCirclesAreLost, OwnNamesChangeNothing, PutsGuard, PutsOrigin, SaysSeen, SeenBefore, SeenFrom, SeenHas, SeenTo, View, ViewHas, arrows_among, doubles_among, gate_in, inversions_among, is_among, key_by, kinds, last_key, level_of, levels_of, members_of, named_fact, no_key, plain, rank, slot_position, view_of}
 pub use Rattle.ld_explain.specs.Findings.{AreReported, GuardsTwo, IsReported, IsTheDouble, IsTheInversion}
 pub use Rattle.ld_explain.specs.Found.{FoundParts, states}
 pub use Rattle.ld_explain.specs.Inside.Choosing.{HasMembers, IsCircleChoice}
@@ -19,7 +19,7 @@ pub use Rattle.ld_explain.specs.Laws.Verdicts.{OnCircle-image}
 pub use Rattle.ld_explain.specs.Names.{[], ◌++◌, ◌+◌, ◌<◌, ◌==◌, ◌↔◌, ◌∙◌, ◌∷◌, ◌≡◌, ◌≤◌, ◌⊎◌, Adds, All, AreSame, Arrow, Bool, Bor, ChainParts, Classes, Contains, Contains-append_left, Contains-append_right, Contains-cases, Contains-head, Contains-later, DependenciesOf, Dependency, En, Enabled, Er, Err, Event, Fact, FactBelow, FactParts, GRAPH_KEYS, HasFact, Holds, IfOk, IfSome, Image, Irq, IsClean, IsDependency, IsDouble, IsFalse, IsInversion, IsMarkedOpening, IsMarkedTaking, IsNone, IsPlacedAfter, IsShortestFrom, IsShortestInversion, IsSomeAnd, IsTrue, Kind, Level, List, Lock, Marked, Name, None, Ok, OnCircle, OnCircle-same, OnOk, Option, Sn, Some, Sr, TracesHave, TracesHaveBy, UsedIn, ap, append-nil, arith, arrow, arrow_by, chain_fact, count_by, event, fact_by, fact_number, fact_slots, false, filter, flat_map, get_or_from_slice_get, held_positions, if◌then◌else◌, inl, inr, is_held, is_read, is_rest, is_some, length, link_by, lookup, map, mode_taken, name_at, name_by, numbers_at, option_and_then, option_map, refl, slice_get, slice_index, slice_index_or, slot_held, subst, sym, take, take_more, true, with_all, ℕ}
 pub use Rattle.ld_explain.specs.Notes.{GuardParts, Guarded}
 pub use Rattle.ld_explain.specs.Origins.{AsNew, Gives, NoLater, Occurs, OriginParts}
-pub use Rattle.ld_explain.specs.Settling.{names_at}
+pub use Rattle.ld_explain.specs.Settling.{LevelParts, names_at}
 pub use Rattle.ld_explain.specs.Verdicts.{AllLevels, HasMember, IsBetween, IsNestedIn, level_by}
 pub use Rattle.ld_explain.specs.declared.asker.Asker.{Asker}
 pub use Rattle.ld_explain.specs.declared.asker.Case.{Case}

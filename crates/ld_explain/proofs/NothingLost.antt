@@ -1,5 +1,6 @@
 -- Circles of single locks are seen.
-use Rattle.ld_explain.proofs.Names.{[], ◌++◌, ◌∙◌, ◌∷◌, ◌≡◌, All-contains, Any-member, AreReported, AreThose, Arrow, Between, Bor, Circle, CirclesOfLocksAreSeen, Contains, Contains-append_left, Contains-append_right, Contains-cases, Contains-flat_map, Contains-head, Contains-later, Contains-map, Contains-unmap, Dependency, Double, En, Er, Fact, FactParts, Finding, HasFact, HasMember, Inversion, IsBetween, IsCircle, IsReported, IsSeenAt, IsSomeAnd, Kind, Levels, List, None, OnCircle, OnCircle-image, OnCircle-member, OnCircle-more, OnCircle-same, Option, OwnNamesChangeNothing, Renamed, RenamedFactsAreTheImage, Sn, Some, Sr, TracesHave, Verdict, View, ap, append_assoc, arith, arrow, arrow_by, arrows_among, inl, inr, is_some, kinds, levels_of, map, plain, refl, subst, sym, true, true≢false, view_of, ℕ}
+use Rattle.ld_explain.proofs.Names.{[], ◌++◌, ◌∙◌, ◌∷◌, ◌≡◌, ◌⊎◌, All-contains, Any-member, AreLevels, AreReported, AreSame, AreThose, AreVerdicts, Arrow, Between, Bor, Borrows, Circle, CirclesOfLocksAreSeen, Contains, Contains-append_left, Contains-append_right, Contains-cases, Contains-flat_map, Contains-head, Contains-later, Contains-map, Contains-unmap, Dependency, Double, En, Er, Event, Fact, FactParts, Finding, HasFact, HasMember, Inversion, IsBetween, IsCircle, IsClean, IsFalse, IsReported, IsSeenAt, IsSomeAnd, IsSure, IsTrue, IsUnseenAt, Kind, LevelParts, Levels, List, Name, NoCircleIsLost, NoCirclesAreLost, None, OnCircle, OnCircle-image, OnCircle-member, OnCircle-more, OnCircle-same, Option, OwnNamesChangeNothing, Renamed, RenamedFactsAreTheImage, Sn, Some, Sr, TracesHave, TracesHaveBy, Verdict, View, ViewHas, ap, append_assoc, arith, arrow, arrow_by, arrows_among, inl, inr, is_some, kinds, levels_of, map, plain, refl, slice_index, subst, sym, true, true≢false, view_of, ℕ}
+use Rattle.ld_explain.proofs.SettlingLemmas.{borrowed-all, borrowed-none}
 use Rattle.ld_explain.specs.Findings.{Are}
 use Rattle.ld_explain.specs.declared.verdict.Between.TheVariants as between
 
@@ -88,24 +89,86 @@ module _ (levels : Levels) (view : View) (keys : List ℕ) (e : Arrow) (on : OnC
   is-locks finding member between.Unknown (inr (inl (unseen, is))) = absurd (unseen.1 (seen-sure finding member))
   is-locks finding member between.Unknown (inr (inr (unseen, also, is))) = absurd (unseen.1 (seen-sure finding member))
 
-pub circles-are-seen : OwnNamesChangeNothing → RenamedFactsAreTheImage → CirclesOfLocksAreSeen
-circles-are-seen own image levels traces type_keys locks verdicts types sure are e on starts ends =
-    let type = (levels_of levels).type in
-    let d = arrow_by type e in
-    let Types = HasFact levels.types.now in
-    let between_locks = OnCircle-more (levels_of levels).sure.Has (TracesHave traces) (λ x has. (own traces x).0 (sure x has)) e on in
-    let found : OnCircle Types d = (OnCircle-same _ Types (λ x. ((types x).1, (types x).0)) d).0
-    ((OnCircle-same _ _ (λ x. ((image type traces x).1, (image type traces x).0)) d).0 (OnCircle-image (TracesHave traces) type e between_locks)) in
-    let there = AreThose-has (OnCircle Types) (arrows_among type_keys) are.findings.found.circles are.findings.found_are.circles d (has-arrow type_keys d starts ends) found in
-    let (walk, reported, member) = reported-all Types [] are.findings.found.circles are.findings.walks are.findings.walks_are d there in
-    let (finding, among, is) = Are-has (IsCircle (view_of (Renamed levels.type_of) traces) type_keys) are.findings.walks are.findings.circles are.findings.circles_are walk reported in
-    let listed = subst (λ fs. Contains fs finding) (sym are.findings.are)
-    (Contains-append_left are.findings.circles (are.findings.doubles ++ are.findings.inversions) finding among) in
-    let (v, has, same) = Contains-unmap (λ (x : Verdict). x.finding) verdicts finding listed in
-    let so = subst (λ f. HasMember f d) (sym same) (circle-has (view_of (Renamed levels.type_of) traces) type_keys walk d member finding is) in (
-      v,
-      has,
-      so,
-      is-locks levels (plain traces) locks e on v.finding so v.between
-          (All-contains (λ (x : Verdict). IsBetween (levels_of levels) (plain traces) locks x.finding x.between) verdicts v are.between has),
-    )
+-- the verdict of a finding with the member is the last one, or it was seen between single locks
+module _ (levels : Levels) (view : View) (keys : List ℕ) (e : Arrow)
+    (on : IsTrue (levels_of levels).sure.is_settled → OnCircle (levels_of levels).sure.Has e) where
+  not-unseen : (finding : Finding) → HasMember finding (arrow_by (levels_of levels).type e) →
+      ¬ IsUnseenAt keys (levels_of levels).sure.Has (levels_of levels).type (levels_of levels).sure finding
+  not-unseen finding member unseen = unseen.1 (seen-sure levels view keys e (on unseen.0) finding member)
+
+  is-locks-or-open : (finding : Finding) → HasMember finding (arrow_by (levels_of levels).type e) → (b : Between) → IsBetween (levels_of levels) view keys finding b →
+      ((nested : Finding) × (b ≡ between.Locks nested)) ⊎ ((b ≡ between.Unknown) × IsFalse (levels_of levels).sure.is_settled)
+  is-locks-or-open finding member (between.Locks nested) is = inl (nested, refl)
+  is-locks-or-open finding member (between.Perhaps nested) (unseen, is) = absurd (not-unseen finding member unseen)
+  is-locks-or-open finding member between.Classes (unseen, also, is) = absurd (not-unseen finding member unseen)
+  is-locks-or-open finding member between.Types (unseen, also, is) = absurd (not-unseen finding member unseen)
+  is-locks-or-open finding member between.Unknown (inl unsettled) = inr (refl, unsettled)
+  is-locks-or-open finding member between.Unknown (inr (inl (unseen, is))) = absurd (not-unseen finding member unseen)
+  is-locks-or-open finding member between.Unknown (inr (inr (unseen, also, is))) = absurd (not-unseen finding member unseen)
+
+module _ (own : OwnNamesChangeNothing) (image : RenamedFactsAreTheImage) where
+  -- a circle of the traces' facts is by its types a circle of the facts of types, and one of the verdicts has it
+  told : (levels : Levels) (traces : List (List Event)) (type_keys locks : List ℕ) (verdicts : List Verdict) →
+      AreSame (HasFact levels.types.now) (ViewHas (view_of (Renamed levels.type_of) traces)) →
+      AreVerdicts (HasFact levels.types.now) (view_of (Renamed levels.type_of) traces) type_keys (levels_of levels) (plain traces) locks verdicts →
+      (e : Arrow) → OnCircle (TracesHave traces) e →
+      Contains type_keys ((levels_of levels).type e.start) → Contains type_keys ((levels_of levels).type e.end) →
+      OnCircle (HasFact levels.types.now) (arrow_by (levels_of levels).type e)
+      × ((v : Verdict) × Contains verdicts v × HasMember v.finding (arrow_by (levels_of levels).type e)
+      × IsBetween (levels_of levels) (plain traces) locks v.finding v.between)
+  told levels traces type_keys locks verdicts types are e on starts ends =
+      let type = (levels_of levels).type in
+      let d = arrow_by type e in
+      let Types = HasFact levels.types.now in
+      let found : OnCircle Types d = (OnCircle-same _ Types (λ x. ((types x).1, (types x).0)) d).0
+      ((OnCircle-same _ _ (λ x. ((image type traces x).1, (image type traces x).0)) d).0 (OnCircle-image (TracesHave traces) type e on)) in
+      let there = AreThose-has (OnCircle Types) (arrows_among type_keys) are.findings.found.circles are.findings.found_are.circles d (has-arrow type_keys d starts ends) found in
+      let (walk, reported, member) = reported-all Types [] are.findings.found.circles are.findings.walks are.findings.walks_are d there in
+      let (finding, among, is) = Are-has (IsCircle (view_of (Renamed levels.type_of) traces) type_keys) are.findings.walks are.findings.circles are.findings.circles_are walk reported in
+      let listed = subst (λ fs. Contains fs finding) (sym are.findings.are)
+      (Contains-append_left are.findings.circles (are.findings.doubles ++ are.findings.inversions) finding among) in
+      let (v, has, same) = Contains-unmap (λ (x : Verdict). x.finding) verdicts finding listed in
+      let so = subst (λ f. HasMember f d) (sym same) (circle-has (view_of (Renamed levels.type_of) traces) type_keys walk d member finding is) in
+      (found, (v, has, so, All-contains (λ (x : Verdict). IsBetween (levels_of levels) (plain traces) locks x.finding x.between) verdicts v are.between has))
+
+  pub circles-are-seen : CirclesOfLocksAreSeen
+  circles-are-seen levels traces type_keys locks verdicts types sure are e on starts ends =
+      let between_locks = OnCircle-more (levels_of levels).sure.Has (TracesHave traces) (λ x has. (own traces x).0 (sure x has)) e on in
+      let (found, (v, has, so, is)) = told levels traces type_keys locks verdicts types are e between_locks starts ends in
+      (v, has, so, is-locks levels (plain traces) locks e on v.finding so v.between is)
+
+  kept : (traces : List (List Event)) (names : List Name) (parts : LevelParts) (type_keys locks : List ℕ) (verdicts : List Verdict) →
+      AreLevels traces names parts → (levels : Levels) → Borrows levels parts →
+      AreVerdicts (HasFact levels.types.now) (view_of (Renamed levels.type_of) traces) type_keys (levels_of levels) (plain traces) locks verdicts →
+      NoCircleIsLost traces names (slice_index levels.type_of.now) type_keys verdicts
+  kept traces names parts type_keys locks verdicts settled levels borrows are e on starts ends =
+      let Sure : Fact → Type 0 = λ x. TracesHave traces x × IsSure names x in
+      let types : AreSame (HasFact levels.types.now) (ViewHas (view_of (Renamed levels.type_of) traces)) =
+      subst (λ f. AreSame (HasFact f) (TracesHaveBy (slice_index levels.type_of.now) traces)) (sym borrows.types)
+      (subst (λ t. AreSame (HasFact parts.types) (TracesHaveBy (slice_index t) traces)) (sym borrows.type_of) settled.types_are) in
+      let (found, (v, has, so, is)) = told levels traces type_keys locks verdicts types are e
+      (OnCircle-more Sure (TracesHave traces) (λ x both. both.0) e on) starts ends in
+      let at_locks = is-locks-or-open levels (plain traces) locks e
+      (λ yes. OnCircle-more Sure (levels_of levels).sure.Has (borrowed-all levels.sure parts.sure Sure borrows.sure settled.sure_are yes) e on)
+      v.finding so v.between is in (
+        v,
+        has,
+        (
+          so,
+          elim at_locks [
+            | inl seen ↦ inl seen
+            | inr (unknown, unsettled) ↦ inr (
+              unknown,
+              elim (settled.left_open (inr (inl (borrowed-none levels.sure parts.sure borrows.sure unsettled)))) [
+                | inl clean ↦ absurd ((subst (λ f. IsClean (HasFact f)) (sym borrows.types) clean).circles _ found)
+                | inr many ↦ many
+              ],
+            )
+          ],
+        ),
+      )
+
+  pub circles-are-kept : NoCirclesAreLost
+  circles-are-kept traces names parts type_keys locks verdicts settled at =
+      subst (λ t. NoCircleIsLost traces names (slice_index t) type_keys verdicts) at.levels_are.type_of
+      (kept traces names parts type_keys locks verdicts settled at.levels at.levels_are at.verdicts_are)

@@ -1,5 +1,5 @@
 -- Facts by other names, and without those of several locks.
-use Rattle.ld_explain.proofs.Names.{[], ◌++◌, ◌+◌, ◌<◌, ◌∙◌, ◌∷◌, ◌≡◌, ◌≤◌, All, AreSame, AreSureNumbers, Bool, Bor, Contains, Contains-get_or, Dependency, Err, Event, Fact, FactBelow, FactParts, HasFact, IfOk, IfSome, Image, ImageBelow, IsErrAnd, IsFalse, IsNone, IsSomeAnd, IsSure, List, Marked, Name, None, Ok, Option, RenamedFactsAreTheImage, Result, Some, TracesHave, TracesHaveBy, ap, arith, cases_lt, fact_by, false, get_or_append_left, get_or_push, if◌then◌else◌, inl, inr, is_rest, length, length-append, name_at, no_key, option_map, refl, slice_index, subst, sym, true, true≢false, ℕ}
+use Rattle.ld_explain.proofs.Names.{[], ◌++◌, ◌+◌, ◌<◌, ◌∙◌, ◌∷◌, ◌≡◌, ◌≤◌, All, AreSame, AreSureNumbers, Bool, Bor, Contains, Contains-get_or, Dependency, Err, Event, Fact, FactBelow, FactParts, HasFact, IfOk, IfSome, Image, ImageBelow, IsErrAnd, IsFalse, IsNone, IsSomeAnd, IsSure, IsTrue, List, Marked, Name, None, Ok, Option, RenamedFactsAreTheImage, Result, Some, TracesHave, TracesHaveBy, ap, arith, cases_lt, fact_by, false, get_or_append_left, get_or_push, if◌then◌else◌, inl, inr, is_rest, is_some, length, length-append, name_at, no_key, option_map, refl, slice_index, subst, sym, true, true≢false, ℕ}
 
 -- ---- numbers of single locks
 -- one key more
@@ -154,3 +154,16 @@ borrowed-has None own P is same x has = absurd has
 borrowed-has (Some facts) own P is same x has =
     let of_facts : IfSome (Some facts.now) (λ f. AreSame (HasFact f) P) = subst (λ o. IfSome o (λ f. AreSame (HasFact f) P)) (sym is) same in
     (of_facts x).0 has
+
+-- a level that is settled has all that its facts have, and one that isn't has none of its own
+pub borrowed-all : (settled : Option (Bor FactParts)) (own : Option FactParts) (P : Fact → Type 0) → option_map (λ facts. facts.now) settled ≡ own →
+    IfSome own (λ facts. AreSame (HasFact facts) P) → IsTrue (is_some settled) → (x : Fact) → P x → IsSomeAnd settled (λ facts. HasFact facts.now x)
+borrowed-all None own P is same is_settled x p = absurd (true≢false (sym is_settled))
+borrowed-all (Some facts) own P is same is_settled x p =
+    let of_facts : IfSome (Some facts.now) (λ f. AreSame (HasFact f) P) = subst (λ o. IfSome o (λ f. AreSame (HasFact f) P)) (sym is) same in
+    (of_facts x).1 p
+
+pub borrowed-none : (settled : Option (Bor FactParts)) (own : Option FactParts) → option_map (λ facts. facts.now) settled ≡ own →
+    IsFalse (is_some settled) → IsNone own
+borrowed-none None own is unsettled = subst IsNone is refl
+borrowed-none (Some facts) own is unsettled = absurd (true≢false unsettled)

@@ -13,7 +13,7 @@ pub use Rattle.ld_explain.specs.Inside.Taking.{AreTakenIn, last_key}
 pub use Rattle.ld_explain.specs.Naming.{key_by, view_of}
 pub use Rattle.ld_explain.specs.Notes.{AreGuardsOf, HasGuard, IsAloneIn, IsGate}
 pub use Rattle.ld_explain.specs.Origins.{AreOriginsOf, HasOrigin, IsFirst, IsOriginOf, OwnNamesChangeNothing, View, ViewHas, plain}
-pub use Rattle.ld_explain.specs.Settling.{AreLevels, AreTypes, AreVerdictsAt, Borrows, IsSure}
+pub use Rattle.ld_explain.specs.Settling.{AreLevels, AreTypes, AreVerdictsAt, Borrows, IsSure, NoCircleIsLost, NoCirclesAreLost}
 pub use Rattle.ld_explain.specs.Verdicts.{AreVerdicts, CirclesOfLocksAreSeen, IsSeenAt, IsUnseenAt, count_ranked, counts, has_finding, is_nesting, levels_of, rank}
 pub use Rattle.ld_explain.specs.Whereabouts.{AreEnds, AreOriginsOfEach, AreWhereabouts, kept_at_end, nested_orders, orders_of, origin_in, place_in, places_in}
 pub use Rattle.ld_explain.specs.declared.naming.Naming.{Naming}

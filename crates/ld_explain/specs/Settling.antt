@@ -1,11 +1,13 @@
 -- What is settled about traces at each level of what their locks are called [this project's own].
-use Rattle.std.specs.Prelude.{[], ◌<◌, ◌≡◌, ◌⊎◌, IfSome, IsFalse, IsNone, List, Option, length, map, option_map, slice_index, ℕ}
-use Rattle.ld_explain.specs.Names.{AreSame, Classes, Dependency, Event, Fact, FactParts, GRAPH_KEYS, HasFact, IsClean, Level, Marked, Name, TracesHave, TracesHaveBy, Types, is_rest, name_at, name_by, numbers_at, with_all}
+use Rattle.std.specs.Prelude.{[], ◌<◌, ◌≡◌, ◌⊎◌, Contains, IfSome, IsFalse, IsNone, List, Option, length, map, option_map, slice_index, ℕ}
+use Rattle.ld_explain.specs.Names.{AreSame, Arrow, Classes, Dependency, Event, Fact, FactParts, GRAPH_KEYS, HasFact, IsClean, Level, Marked, Name, OnCircle, TracesHave, TracesHaveBy, Types, arrow_by, is_rest, name_at, name_by, numbers_at, with_all}
 use Rattle.ld_explain.specs.Naming.{view_of}
 use Rattle.ld_explain.specs.Origins.{plain}
-use Rattle.ld_explain.specs.Verdicts.{AreVerdicts, levels_of}
+use Rattle.ld_explain.specs.Verdicts.{AreVerdicts, HasMember, levels_of}
+use Rattle.ld_explain.specs.declared.finding.Finding.{Finding}
 use Rattle.ld_explain.specs.declared.levels.Levels.{Levels}
 use Rattle.ld_explain.specs.declared.naming.Naming.TheVariants.{Renamed}
+use Rattle.ld_explain.specs.declared.verdict.Between.TheVariants as between
 use Rattle.ld_explain.specs.declared.verdict.Verdict.{Verdict}
 
 -- the names at a level, each once, in the order in which they come first
@@ -71,3 +73,23 @@ pub record AreVerdictsAt (traces : List (List Event)) (parts : LevelParts) (type
   pub levels_are : Borrows levels parts
   pub verdicts_are : AreVerdicts (HasFact levels.types.now) (view_of (Renamed levels.type_of) traces) type_keys (levels_of levels)
       (plain traces) locks verdicts
+
+-- ---- nothing is lost
+-- the verdict is of a circle with this member that was seen between single locks, or, where there are more names than one graph takes, of
+-- one of which it isn't known between what
+abbrev pub TellsCircle : List Name → Arrow → Verdict → Type 0
+TellsCircle names d v = HasMember v.finding d
+    × (((nested : Finding) × (v.between ≡ between.Locks nested)) ⊎ ((v.between ≡ between.Unknown) × (GRAPH_KEYS < length names)))
+
+-- each dependency on a circle of the traces' single locks, none of which stands for several, is by its types a member of a circle that
+-- one of the verdicts tells, if its types are among the keys
+abbrev pub NoCircleIsLost : List (List Event) → List Name → (type : ℕ → ℕ) → (type_keys : List ℕ) → List Verdict → Type 0
+NoCircleIsLost traces names type type_keys verdicts = (e : Arrow) → OnCircle (λ x. TracesHave traces x × IsSure names x) e →
+    Contains type_keys (type e.start) → Contains type_keys (type e.end) →
+    (v : Verdict) × Contains verdicts v × TellsCircle names (arrow_by type e) v
+
+-- so it is with the verdicts of any traces
+abbrev pub NoCirclesAreLost : Type 0
+NoCirclesAreLost = (traces : List (List Event)) (names : List Name) (parts : LevelParts) (type_keys locks : List ℕ) (verdicts : List Verdict) →
+    AreLevels traces names parts → AreVerdictsAt traces parts type_keys locks verdicts →
+    NoCircleIsLost traces names (slice_index parts.type_of) type_keys verdicts

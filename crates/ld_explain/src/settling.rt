@@ -2,10 +2,13 @@
 
 ghost use Rattle.std.specs.Prelude.{◌<◌, ◌↔◌, ◌≡◌, ◌≤◌, All, Contains, Err, IfOk, IfSome, IsFalse, IsNone, IsTrue, List, Ok, if◌then◌else◌, length, slice_index};
 ghost use Rattle.ld_explain.specs.Names.{AreSame, Event, GRAPH_KEYS, HasFact, Image, IsClean, IsWellFormed, MAX_KEYS, MAX_TRACES, TooTangled, TracesHave, is_rest, name_at};
-ghost use Rattle.ld_explain.specs.Clauses.{AreLevels, AreSureNumbers, AreTypes, AreVerdictsAt, AreWhereabouts, Borrows, IsSure, no_key};
+ghost use Rattle.ld_explain.specs.Clauses.{AreLevels, AreSureNumbers, AreTypes, AreVerdictsAt, AreWhereabouts, Borrows, IsSure, NoCircleIsLost, no_key};
 
 use crate::whereabouts::whereabouts_of;
-use crate::{Levels, Naming, Tried, Verdict, Whereabouts, own_names_change_nothing, verdicts_of};
+use crate::{
+    Levels, Naming, Tried, Verdict, Whereabouts, circles_of_locks_are_seen,
+    own_names_change_nothing, verdicts_of,
+};
 use ld_facts::Facts;
 use ld_parts::{PartedGraph, PartingFault, Settled};
 use ld_trace::{KeyId, KeyTable, Level, RawTrace, Renaming, is_rest};
@@ -176,7 +179,8 @@ impl SettledLevels {
     }
 
     /// What was found in the traces, at most 4,096, between the types of their locks, among `type_keys` and in their order, each with
-    /// what it was seen between among `lock_keys`; see `verdicts_of`. It fails only if memory is refused.
+    /// what it was seen between among `lock_keys`; see `verdicts_of`. No circle of single locks is lost. It fails only if memory is
+    /// refused.
     pub fn verdicts(
         &self,
         alloc: Global,
@@ -188,9 +192,12 @@ impl SettledLevels {
         requires few { length traces.now ≤ MAX_TRACES }
         requires well_formed { All IsWellFormed traces.now }
         requires levels { AreLevels traces.now names.now.names self.now }
-        ensures { IfOk result (λ verdicts. AreVerdictsAt traces.now self.now type_keys.now lock_keys.now verdicts.items) }
+        ensures are { IfOk result (λ verdicts. AreVerdictsAt traces.now self.now type_keys.now lock_keys.now verdicts.items) }
+        ensures kept { IfOk result (λ verdicts. NoCircleIsLost traces.now names.now.names (slice_index self.now.type_of)
+            type_keys.now verdicts.items) }
     {
         own_names_change_nothing();
+        circles_of_locks_are_seen();
         verdicts_of(alloc, &self.levels(), traces, type_keys, lock_keys)
     }
 

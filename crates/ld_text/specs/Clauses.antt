@@ -12,7 +12,7 @@ pub use Rattle.ld_text.specs.Order.{IsKeyOrder, name_cmp}
 pub use Rattle.ld_text.specs.Output.{AppendsBeginning, PutsBehind}
 pub use Rattle.ld_text.specs.Picture.{AreJoined, IsFoundArrow, IsFoundKey, IsNode, IsPicture, ShowsEdge, ShowsKey, arrow_text, double_links, end_text, escaped, inversion_links, link_line, quoted_key}
 pub use Rattle.ld_text.specs.Report.{AreTotals, IsReport, IsUsageCharacter, IsUsageLine, ShowsBecause, circle_line, clean_line, double_line, findings, forms, inversion_line, member_text, total_line, usage_character}
-pub use Rattle.ld_text.specs.Verdicts.{AreVerdictsOf, between_members, between_text, count_members, dependency_object, end_line, end_members, gate_object, in_order, kept_object, lock_members, lock_sources, nested_text, note_members, noted_members, only_member, ranked, seen_text, taken_members, type_sources, verdict_block, verdict_json, verdict_line, verdict_lines, verdict_members, verdicts_text}
+pub use Rattle.ld_text.specs.Verdicts.{AreVerdictsOf, KeepsCircles, between_members, between_text, count_members, dependency_object, end_line, end_members, gate_object, in_order, kept_object, lock_members, lock_sources, nested_text, note_members, noted_members, only_member, ranked, seen_text, taken_members, type_sources, verdict_block, verdict_json, verdict_line, verdict_lines, verdict_members, verdicts_text}
 pub use Rattle.ld_text.specs.Words.{file_at, flag_text, frame_text, key_text, kind_text}
 pub use Rattle.ld_text.specs.WriteFaults.{StopsWriting, write_code_of}
 pub use Rattle.ld_text.specs.declared.chains_text.TheConstants.{LINE_BYTES}

@@ -1,5 +1,5 @@
 -- The texts of verdicts: findings between types, each with what it was seen between [this project's own].
-use Rattle.std.specs.Prelude.{[], ◌++◌, ◌+◌, ◌-◌, ◌==◌, Bool, List, None, Option, Some, codes, drop, false, flat_map, if◌then◌else◌, length, true, ℕ}
+use Rattle.std.specs.Prelude.{[], ◌++◌, ◌+◌, ◌-◌, ◌==◌, Bool, List, None, Option, Some, codes, drop, false, flat_map, if◌then◌else◌, length, slice_index, true, ℕ}
 use Rattle.ld_text.specs.Names.{Acquire, AreLevels, AreVerdictsAt, Arrow, Between, Circle, Classes, Double, End, Event, Finding, GateNote, Inversion, LevelParts, Locks, Mode, Name, OriginParts, Perhaps, Token, Types, Unknown, Verdict, count_ranked, is_nesting, mode_word, name_at, print, rank}
 use Rattle.ld_text.specs.Explanation.{Sources, deadlock_text, event_of, head_text, notes_text, origins_text, walk_text}
 use Rattle.ld_text.specs.Json.{dependency_members, finding_members, list_member, number_member, object, object_member, text_member}
@@ -8,6 +8,9 @@ use Rattle.ld_text.specs.Report.{total_line}
 use Rattle.ld_text.specs.Words.{Text, file_at, key_text}
 use Rattle.ld_text.specs.declared.verdicts.VerdictFormat.{VerdictFormat}
 use Rattle.ld_text.specs.declared.verdicts.VerdictFormat.TheVariants as format
+use Rattle.ld_explain.specs.Settling.{NoCircleIsLost, names_at}
+use Rattle.ld_trace.specs.Classes.{numbers_at}
+use Rattle.ld_trace.specs.declared.level.Level.TheVariants as level
 
 -- ---- what the texts are of
 -- these are the verdicts of these traces: the findings between the types of their locks, with the types and the locks in the order of
@@ -20,6 +23,12 @@ pub record AreVerdictsOf (traces : List (List Event)) (names : List Name) (verdi
   pub locks : List ℕ
   pub locks_are : IsKeyOrder names locks
   pub verdicts_are : AreVerdictsAt traces levels keys locks verdicts
+
+-- no circle of the traces' single locks is lost among these verdicts of all their types
+pub record KeepsCircles (traces : List (List Event)) (names : List Name) (verdicts : List Verdict) : Type 0 where
+  pub keys : List ℕ
+  pub keys_are : IsKeyOrder (names_at level.Types names) keys
+  pub kept : NoCircleIsLost traces names (slice_index (numbers_at level.Types names (names_at level.Types names))) keys verdicts
 
 -- words for findings between types, whose records take the traces' locks, and for those between single locks, which stand deeper
 abbrev pub type_sources : List (List Event) → (types names : List Name) → List Text → (lists_traces : Bool) → List OriginParts → Sources

@@ -2,7 +2,7 @@
 
 ghost use Rattle.std.specs.Prelude.{◌≡◌, ◌≤◌, All, IfErr, IfOk, List, OnOk, length, map, ℕ};
 ghost use Rattle.ld_text.specs.Names.{Appends, AreLevels, IsWellFormed, MAX_TRACES};
-ghost use Rattle.ld_text.specs.Clauses.{AreVerdictsOf, StopsWriting, verdicts_text};
+ghost use Rattle.ld_text.specs.Clauses.{AreVerdictsOf, KeepsCircles, StopsWriting, verdicts_text};
 
 use crate::key_texts::KeyTexts;
 use crate::wording::{DEEPER, MARGIN, Wording};
@@ -20,7 +20,8 @@ pub(crate) struct VerdictWording<'a> {
 }
 
 /// The verdicts of the traces, at most 4,096, whose facts are settled so: the findings between the types of their locks, each with
-/// what it was seen between; types and locks come in the order of their names. It fails only if memory is refused.
+/// what it was seen between; types and locks come in the order of their names. No circle of single locks is lost. It fails only if
+/// memory is refused.
 pub fn verdicts_of_traces(
     alloc: Global,
     levels: &SettledLevels,
@@ -30,7 +31,8 @@ pub fn verdicts_of_traces(
     requires few { length traces.now ≤ MAX_TRACES }
     requires well_formed { All IsWellFormed traces.now }
     requires levels { AreLevels traces.now names.now.names levels.now }
-    ensures { IfOk result (λ verdicts. AreVerdictsOf traces.now names.now.names verdicts.items) }
+    ensures are { IfOk result (λ verdicts. AreVerdictsOf traces.now names.now.names verdicts.items) }
+    ensures kept { IfOk result (λ verdicts. KeepsCircles traces.now names.now.names verdicts.items) }
 {
     let keys = sorted_keys(alloc, levels.type_names())?;
     let locks = sorted_keys(alloc, names)?;

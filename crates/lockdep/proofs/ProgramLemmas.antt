@@ -66,9 +66,3 @@ StopsReading-input room files input (Condensing fault) none h = absurd h
 pub IfErr-passed : {T E : Type 0} (r : Result T E) (e : E) (P : E → Type 0) → IsErr r × IsErrAnd r (λ x. x ≡ e) → P e → IfErr r P
 IfErr-passed (Ok x) e P is p = tt
 IfErr-passed (Err x) e P is p = subst P (sym is.1) p
-
--- a whole text begins itself
-pub whole-begun : (old new : Option (List ℕ)) (text : List ℕ) → Appends old new text → AppendsBeginning old new text
-whole-begun None new text wrote = tt
-whole-begun (Some xs) None text wrote = absurd wrote
-whole-begun (Some xs) (Some ys) text wrote = (text, [], sym (append-nil text), ap Some wrote)

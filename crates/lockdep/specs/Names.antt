@@ -6,26 +6,27 @@ pub use Rattle.ld_explain.specs.Verdicts.{has_finding}
 pub use Rattle.ld_explain.specs.Whereabouts.{AreWhereabouts}
 pub use Rattle.ld_explain.specs.declared.verdict.Verdict.{Verdict}
 pub use Rattle.ld_explain.specs.declared.whereabouts.Whereabouts.{Whereabouts}
-pub use Rattle.ld_facts.specs.FactBits.{HasFact}
+pub use Rattle.ld_facts.specs.FactBits.{FactParts, HasFact}
 pub use Rattle.ld_facts.specs.Facts.{AreSame}
 pub use Rattle.ld_facts.specs.TraceFacts.{TracesHave}
 pub use Rattle.ld_facts.specs.declared.fact.Fact.{Fact}
 pub use Rattle.ld_graph.specs.Links.{IsClean}
 pub use Rattle.ld_parts.specs.declared.parting_fault.PartingFault.{PartingFault}
 pub use Rattle.ld_read.specs.Reading.{AreRead, StopsAfter}
-pub use Rattle.ld_run.specs.Condensing.{IsCondensed}
+pub use Rattle.ld_run.specs.Condensing.{IsCondensed, events_enough}
 pub use Rattle.ld_run.specs.Faults.{condense_code_of, run_code_of}
 pub use Rattle.ld_run.specs.Runs.{CompletesRun, IsCrew, StopsRun}
 pub use Rattle.ld_run.specs.declared.condense_fault.CondenseFault.{CondenseFault}
+pub use Rattle.ld_run.specs.declared.condense_fault.CondenseFault.TheVariants.{TooLong}
 pub use Rattle.ld_run.specs.declared.fault.RunFault.{RunFault}
-pub use Rattle.ld_run.specs.declared.fault.RunFault.TheVariants.{Refused, TooTangled}
+pub use Rattle.ld_run.specs.declared.fault.RunFault.TheVariants.{Refused, TooTangled, Unsettled}
 pub use Rattle.ld_task.specs.WellFormed.{IsFirstFault, IsWellFormed}
 pub use Rattle.ld_text.specs.ChainLines.{chains_text}
 pub use Rattle.ld_text.specs.Findings.{SaysFindingsOf}
 pub use Rattle.ld_text.specs.Output.{AppendsBeginning}
 pub use Rattle.ld_text.specs.Picture.{IsPictureOf}
 pub use Rattle.ld_text.specs.Report.{IsReportOf}
-pub use Rattle.ld_text.specs.Verdicts.{AreVerdictsOf, lock_sources, type_sources, verdict_json, verdicts_text}
+pub use Rattle.ld_text.specs.Verdicts.{AreVerdictsOf, KeepsCircles, lock_sources, type_sources, verdict_json, verdicts_text}
 pub use Rattle.ld_text.specs.Words.{Text, file_at}
 pub use Rattle.ld_text.specs.WriteFaults.{StopsWriting}
 pub use Rattle.ld_text.specs.declared.findings.Format.{Format}

@@ -1,9 +1,8 @@
 -- What the program does for a command line [this project's own].
-use Rattle.std.specs.Prelude.{[], ◌+◌, ◌<◌, ◌||◌, ◌↔◌, ◌∷◌, ◌≡◌, ◌≤◌, ◌⊎◌, All, Bool, Contains, IfSome, IsTrue, List, None, Option, Some, codes, if◌then◌else◌, length, map, option_map, unwrap_or, ℕ, ⊤}
+use Rattle.std.specs.Prelude.{[], ◌+◌, ◌<◌, ◌||◌, ◌↔◌, ◌∷◌, ◌≡◌, ◌≤◌, ◌⊎◌, All, Bool, Contains, IfSome, IsTrue, List, None, Option, Result, Some, codes, if◌then◌else◌, length, map, option_map, unwrap_or, ℕ, ⊤}
 use Rattle.lockdep.specs.Names.{Appends, AppendsBeginning, AreRefused, AskForText, Chains, Check, Condense, Event, Explain, Format, GRAPH_KEYS, Graph, IsClean, IsCrew, IsFirstFault, IsLineOf, IsWellFormed, Keeps, KeysBelow, Line, MAX_KEYS, MAX_TRACES, Name, ReadsTo, Schedule, StopsAt, Text, TracesHave, chains_text, file_at}
 use Rattle.ld_schedule.specs.NamedHistories.{IsRefusedAs}
 use Rattle.lockdep.specs.Faults.{StopsText}
-use Rattle.lockdep.specs.FaultLines.{fault_line}
 use Rattle.lockdep.specs.Texts.{OutputView, report, explanation, json, picture, condensed, IsTextOf}
 use Rattle.ld_text.specs.declared.findings.Format.TheVariants as format
 use Rattle.lockdep.specs.Verdicts.{StopsVerdicts, WritesVerdicts}
@@ -307,10 +306,13 @@ abbrev pub RefusesWords : List Text → (input old new : Option (List ℕ)) → 
 RefusesWords words input old new refusal =
     ((line : Line) × IsLineOf words line × RefusesLine line input old new refusal) ⊎ RefusesNoLine words old new refusal
 
--- the program ran with these words and this input, from and to what standard output and standard error hold: it did what the words ask
--- for, with status 0 or 1; or it refused, with status 2 and one line on standard error, of which a beginning was written
-pub record IsRunOf (words : List Text) (input old_out new_out old_err new_err : Option (List ℕ)) (status : ℕ) : Type 0 where
+-- the refusal was told in some way of these ways in which telling it may end
+abbrev pub WasTold : (Tells : Refusal → Result ℕ WriteFault → Type 0) → Refusal → Type 0
+WasTold Tells refusal = (ended : Result ℕ WriteFault) × Tells refusal ended
+
+-- the program ran with these words and this input, from and to what standard output holds: it did what the words ask for, with status 0
+-- or 1; or it refused, with status 2, and told the refusal
+pub record IsRunOf (words : List Text) (input old_out new_out : Option (List ℕ)) (Tells : Refusal → Result ℕ WriteFault → Type 0) (status : ℕ) : Type 0 where
   pub few : status ≤ 2
   pub done : status < 2 → DoesWords words input old_out new_out status
-  pub refused : status ≡ 2 → (refusal : Refusal) × RefusesWords words input old_out new_out refusal
-      × AppendsBeginning old_err new_err (fault_line refusal)
+  pub refused : status ≡ 2 → (refusal : Refusal) × RefusesWords words input old_out new_out refusal × WasTold Tells refusal

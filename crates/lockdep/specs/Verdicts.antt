@@ -1,9 +1,9 @@
 -- What `explain --locks` writes: the findings between types, each with what it was seen between [this project's own].
 use Rattle.std.specs.Prelude.{◌≡◌, ◌≤◌, All, Bool, List, Option, length, slice_index, true, ℕ}
-use Rattle.lockdep.specs.Names.{Appends, AreVerdictsOf, AreWhereabouts, Event, Format, IsCrew, IsWellFormed, MAX_TRACES, Name, StopsWriting, Text, Types, Verdict, Whereabouts, has_finding, lock_sources, names_at, numbers_at, type_sources, verdict_json, verdicts_text}
+use Rattle.lockdep.specs.Names.{Appends, AreVerdictsOf, AreWhereabouts, Event, Format, IsCrew, IsWellFormed, Keeps, KeepsCircles, MAX_TRACES, Name, RunFault, StopsWriting, Text, Types, Unsettled, Verdict, Whereabouts, has_finding, lock_sources, names_at, numbers_at, type_sources, verdict_json, verdicts_text}
 use Rattle.ld_text.specs.declared.findings.Format.TheVariants as format
 use Rattle.ld_text.specs.declared.verdicts.VerdictFormat.TheVariants as verdict_format
-use Rattle.lockdep.specs.Faults.{StopsReport}
+use Rattle.lockdep.specs.Faults.{StopsOtherwise, StopsReport}
 use Rattle.lockdep.specs.declared.fault.ReportFault.{ReportFault}
 use Rattle.lockdep.specs.declared.fault.ReportFault.TheVariants.{Condensing, Out, Run, Step}
 
@@ -30,15 +30,22 @@ pub record WritesVerdicts (format : Format) (confirmed_only : Bool) (files : Lis
     (old new : Option (List ℕ)) (found : Bool) : Type 0 where
   pub verdicts : List Verdict
   pub verdicts_are : AreVerdictsOf traces names verdicts
+  pub kept : KeepsCircles traces names verdicts
   pub text : List ℕ
   pub text_is : IsTextOfVerdicts format traces names files verdicts text
   pub wrote : Appends old new text
   pub found_is : found ≡ has_finding confirmed_only verdicts
 
+-- the traces weren't settled at each level, for this reason: the keys that may be tangled are the types, and facts of several workers
+-- aren't compared
+abbrev pub StopsLevels : List (List Event) → List Name → (workers : ℕ) → RunFault → Type 0
+StopsLevels traces names workers Unsettled = ⊥
+StopsLevels traces names workers fault = StopsOtherwise traces (length (names_at Types names)) workers fault
+
 -- they were refused in this way: before they were known as a report is, or in writing them
 abbrev pub StopsVerdicts : Format → List Text → List Name → List (List Event) → (workers : ℕ) → (old new : Option (List ℕ)) → ReportFault → Type 0
 StopsVerdicts format files names traces workers old new (Step trace at fault) = StopsReport traces names workers old new (Step trace at fault)
-StopsVerdicts format files names traces workers old new (Run fault) = StopsReport traces names workers old new (Run fault)
+StopsVerdicts format files names traces workers old new (Run fault) = StopsLevels traces names workers fault × Keeps old new
 StopsVerdicts format files names traces workers old new (Condensing fault) = ⊥
 StopsVerdicts format files names traces workers old new (Out fault) = IsCrew workers × (length traces ≤ MAX_TRACES)
     × All IsWellFormed traces × StopsWriting (SaysVerdicts format traces names files) old new fault

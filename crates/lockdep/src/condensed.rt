@@ -26,8 +26,8 @@ pub(crate) fn write_condensed<W: Write>(
     requires { settled.now.keys ≡ length keys.now.names }
     ensures ok { OnOk result ((text : List ℕ) × IsCondensedText (HasFact settled.now) keys.now.names text
         × Appends (W.contents w.old) (W.contents w.new) text) }
-    ensures err { IfErr result (StopsSettled condensed (IsCondensedText (HasFact settled.now) keys.now.names)
-        (W.contents w.old) (W.contents w.new)) }
+    ensures err { IfErr result (StopsSettled condensed (HasFact settled.now) (length keys.now.names)
+        (IsCondensedText (HasFact settled.now) keys.now.names) (W.contents w.old) (W.contents w.new)) }
 {
     let text = condensed_text(alloc, settled, keys)?;
     match write_text(w, text.as_slice()) {
@@ -39,7 +39,7 @@ pub(crate) fn write_condensed<W: Write>(
 fn condensed_text(alloc: Global, settled: &Settled, keys: &KeyTable) -> Result<Vec<u8>, ReportFault>
     requires { settled.now.keys ≡ length keys.now.names }
     ensures ok { IfOk result (λ text. IsCondensedText (HasFact settled.now) keys.now.names text.items) }
-    ensures err { IfErr result IsBeforeWriting }
+    ensures err { IfErr result (IsBeforeWriting (HasFact settled.now) (length keys.now.names)) }
 {
     let Ok(order) = sorted_keys(alloc, keys) else {
         return Err(ReportFault::Out(WriteFault::Memory));

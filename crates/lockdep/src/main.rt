@@ -2,8 +2,7 @@
 #![tactic(auto)]
 
 ghost use Rattle.std.specs.Prelude.{◌<◌, ◌≡◌, ◌≤◌, ◌⊎◌, IfErr, IfOk, List, map, string_bytes, ℕ};
-ghost use Rattle.lockdep.specs.Names.{AppendsBeginning};
-ghost use Rattle.lockdep.specs.Clauses.{DoesWords, Refusal, fault_line};
+ghost use Rattle.lockdep.specs.Clauses.{DoesWords, Refusal, WasTold};
 
 use std::alloc::{AllocError, Global};
 use std::process::ExitCode;
@@ -26,7 +25,7 @@ mod trace_files;
 mod verdicts;
 
 use program::program_side_by_side;
-use refusal::{REFUSED, Refusal, refuse};
+use refusal::{REFUSED, Refusal, Tells};
 use session::Session;
 use std::io::{Read, Write};
 use std::rt::{Env, Files};
@@ -59,16 +58,16 @@ fn texts_of<'a>(alloc: Global, words: &'a [String]) -> Result<Vec<&'a str>, Allo
 
 // Runs the program over the process's own words, which no contract can name, and returns its status. If they can't be read, that is
 // the refusal.
-fn run<R, I, O, E>(rt: &R, input: I, out: &mut O, err: &mut E) -> u8
+fn run<R, I, O, T>(rt: &R, input: I, out: &mut O, err: &mut T) -> u8
 where
     R: Files + Adds + Env + Threads + Wait + Sync + AllocGlobal,
     I: Read + Drop,
     O: Write,
-    E: Write,
+    T: Tells,
     ensures status { result ≤ 2 }
     ensures done { result < 2 → (words : List (List ℕ)) × DoesWords words (I.remaining input) (O.contents out.old) (O.contents out.new) result }
     ensures quiet { result < 2 → err.new ≡ err.old }
-    ensures refused { result ≡ 2 → (refusal : Refusal) × AppendsBeginning (E.contents err.old) (E.contents err.new) (fault_line refusal) }
+    ensures refused { result ≡ 2 → (refusal : Refusal) × WasTold (λ why ended. T.tells err.old why ended err.new) refusal }
 {
     let words = match words_of(rt) {
         Ok(words) => words,
@@ -80,12 +79,12 @@ where
     }
 }
 
-// Writes the line of this refusal, as far as that can be written, and returns the status.
-fn refuse_words<E: Write>(err: &mut E, refusal: Refusal<'_>) -> u8
+// Tells this refusal, and returns the status, however telling it ends.
+fn refuse_words<T: Tells>(err: &mut T, refusal: Refusal<'_>) -> u8
     ensures status { result ≡ 2 }
-    ensures line { AppendsBeginning (E.contents err.old) (E.contents err.new) (fault_line refusal.entry) }
+    ensures line { WasTold (λ why ended. T.tells err.old why ended err.new) refusal.entry }
 {
-    match refuse(err, refusal) {
+    match err.tell(refusal) {
         Ok(status) => status,
         Err(_) => REFUSED,
     }

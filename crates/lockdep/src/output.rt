@@ -44,7 +44,7 @@ pub(crate) fn write_output<W: Write>(
     requires keys { settled.now.keys ≡ length keys.now.names }
     ensures ok { OnOk result ((text : List ℕ) × IsTextOf (view_of output.entry) traces.now keys.now.names text
         × Appends (W.contents w.old) (W.contents w.new) text) }
-    ensures err { IfErr result (StopsSettled (view_of output.entry)
+    ensures err { IfErr result (StopsSettled (view_of output.entry) (TracesHave traces.now) (length keys.now.names)
         (IsTextOf (view_of output.entry) traces.now keys.now.names) (W.contents w.old) (W.contents w.new)) }
 {
     match output {

@@ -40,17 +40,17 @@ pub(crate) const NOT_CLEAN: u8 = 1;
 /// The status is 0 if the facts are clean, if the condensed trace or the chains were written, or if help or the version was
 /// asked for; 1 if a report, an explanation or a picture was written of facts that aren't clean, verdicts of which one
 /// counts, or what is said of histories of which one can stand still; and 2 if the program refused.
-/// Then exactly one line is written to `err`, and otherwise none; if `err` fails, that is ignored. This project's own.
-pub fn program<R: Files + Threads + Wait + Sync, I: Read + Drop, O: Write, E: Write>(
+/// Then `err` is told why, in exactly one line, and otherwise nothing; how telling it ends is ignored. This project's own.
+pub fn program<R: Files + Threads + Wait + Sync, I: Read + Drop, O: Write, T: Tells>(
     rt: &R,
     alloc: Global,
     words: &[&str],
     input: I,
     out: &mut O,
-    err: &mut E,
+    err: &mut T,
 ) -> u8
     ensures run { IsRunOf (map (λ word. word.now) words.entry.now) (I.remaining input)
-        (O.contents out.old) (O.contents out.new) (E.contents err.old) (E.contents err.new) result }
+        (O.contents out.old) (O.contents out.new) (λ refusal ended. T.tells err.old refusal ended err.new) result }
     ensures quiet { result < 2 → err.new ≡ err.old }
 {
     run_program(rt, &InTurn { rt }, alloc, words, input, out, err)
@@ -64,27 +64,27 @@ pub fn program_side_by_side<
     R: Files + Adds + Threads + Wait + Sync,
     I: Read + Drop,
     O: Write,
-    E: Write,
->(rt: &R, alloc: Global, words: &[&str], input: I, out: &mut O, err: &mut E) -> u8
+    T: Tells,
+>(rt: &R, alloc: Global, words: &[&str], input: I, out: &mut O, err: &mut T) -> u8
     ensures run { IsRunOf (map (λ word. word.now) words.entry.now) (I.remaining input)
-        (O.contents out.old) (O.contents out.new) (E.contents err.old) (E.contents err.new) result }
+        (O.contents out.old) (O.contents out.new) (λ refusal ended. T.tells err.old refusal ended err.new) result }
     ensures quiet { result < 2 → err.new ≡ err.old }
 {
     run_program(rt, rt, alloc, words, input, out, err)
 }
 
 // The program, with this way to read files.
-fn run_program<R: Files + Threads + Wait + Sync, A: Adds, I: Read + Drop, O: Write, E: Write>(
+fn run_program<R: Files + Threads + Wait + Sync, A: Adds, I: Read + Drop, O: Write, T: Tells>(
     rt: &R,
     adds: &A,
     alloc: Global,
     words: &[&str],
     input: I,
     out: &mut O,
-    err: &mut E,
+    err: &mut T,
 ) -> u8
     ensures run { IsRunOf (map (λ word. word.now) words.entry.now) (I.remaining input)
-        (O.contents out.old) (O.contents out.new) (E.contents err.old) (E.contents err.new) result }
+        (O.contents out.old) (O.contents out.new) (λ refusal ended. T.tells err.old refusal ended err.new) result }
     ensures quiet { result < 2 → err.new ≡ err.old }
 {
     match answer_or_refuse(rt, adds, alloc, words, input, out, err) {

@@ -160,7 +160,8 @@ impl Session {
     /// seen between single locks and what isn't known. The request's files are the names of the traces, and its workers
     /// aren't asked for. The session is consumed in every case.
     ///
-    /// Refusals are those of `write` for an explanation, but that M1 means that more than 256 types lead to one another.
+    /// Refusals are those of `write` for an explanation, but that there is no N3, and M1 means that more than 256 types lead to one
+    /// another. N1 and N2 come exactly as there: a result, and any other refusal, needs a number of workers and of traces that is allowed.
     pub fn write_verdicts<R: Threads + Sync, W: Write>(
         self,
         rt: &R,
@@ -180,7 +181,7 @@ impl Session {
     }
 
     /// Checks all traces by `workers` workers, writes the report of all of them together, and returns whether their facts are
-    /// clean. Refusals are those of `write`, without E1 and E2.
+    /// clean. Refusals are those of `write`, without E1, E2 and E3.
     pub fn report<R: Threads + Wait + Sync, W: Write, G: Gate + Sync>(
         self,
         rt: &R,

@@ -1,6 +1,6 @@
 //! What is settled about the traces of a session.
 
-ghost use Rattle.std.specs.Prelude.{◌+◌, ◌<◌, ◌≡◌, All, IfErr, IfOk, IsSomeAnd, List, Option, length, slice_get, ℕ};
+ghost use Rattle.std.specs.Prelude.{◌+◌, ◌<◌, ◌≡◌, ◌≢◌, All, IfErr, IfOk, IsSomeAnd, List, Option, length, slice_get, ℕ};
 ghost use Rattle.lockdep.specs.Names.{CompletesRun, Format, KeysBelow, Name, StopsRun, Text};
 ghost use Rattle.lockdep.specs.Clauses.{OutputView, StopsText, StopsVerdicts};
 
@@ -38,8 +38,8 @@ pub(crate) fn run_fault(fault: RunFault, traces: &[RawTrace]) -> ReportFault
     ensures text { (workers : ℕ) (known : Option (List ℕ)) (names : List Name) (output : OutputView)
         → StopsRun traces.now (length names) workers fault
         → StopsText output traces.now names workers known known result }
-    ensures verdicts { (workers : ℕ) (known : Option (List ℕ)) (names : List Name) (format : Format) (files : List Text)
-        → StopsRun traces.now (length names) workers fault
+    ensures verdicts { (workers keys : ℕ) (known : Option (List ℕ)) (names : List Name) (format : Format) (files : List Text)
+        → StopsRun traces.now keys workers fault → (fault ≢ RunFault.Unsettled) → (fault ≢ RunFault.TooTangled)
         → StopsVerdicts format files names traces.now workers known known result }
 {
     match fault {

@@ -1,5 +1,7 @@
-use Rattle.lockdep.proofs.ProgramLemmas.{whole-begun}
 use Rattle.lockdep.proofs.refuse_words.Goals as goal
 
 pub returns-in-Ok-clause-line : goal.returns-in-Ok-clause-line
-returns-in-Ok-clause-line g c = whole-begun _ _ _ c.in-Ok.ensures.line
+returns-in-Ok-clause-line g c = (c.tell.result, c.tell.ensures.told)
+
+pub returns-in-Err-clause-line : goal.returns-in-Err-clause-line
+returns-in-Err-clause-line g c = (c.tell.result, c.tell.ensures.told)
