@@ -234,10 +234,11 @@ struct raw_source {
     uint32_t signal;    /* written last */
     uint32_t continued; /* how often a run of it went on with what it interrupted, as one that a fault brings does */
     uint64_t handler;   /* as a word */
+    uint64_t unblocks;  /* as a mask: signals that a run of it unblocks, whatever it has interrupted */
 };
 
 /* The runs of a source in one thread of the system's. */
-enum raw_sent { SENT_TO_PROCESS = 1, SENT_TO_THREAD = 2 };
+enum raw_sent { SENT_TO_PROCESS = 1, SENT_TO_THREAD = 2, SENT_BY_TIMER = 4, SENT_BY_OTHERS = 8 };
 struct raw_run {
     uint32_t source; /* written last */
     uint32_t process;
@@ -246,11 +247,12 @@ struct raw_run {
     uint64_t count;
     uint64_t calls; /* so many acquisitions and releases of the thread's own code were seen when the first one came */
     uint64_t self;  /* its pthread_t */
-    uint32_t sent;  /* of enum raw_sent: to whom */
+    uint32_t sent;  /* of enum raw_sent: to whom, and whether by a timer that was seen to be armed */
 };
 
-/* Which sources may interrupt: those of signals that are unblocked and have a handler. */
+/* Which sources may interrupt: those of signals that are unblocked and have a handler, and whether no timer is armed that sends the signal. */
 #define RAW_SIGNALS 64
+#define RAW_UNARMED 0x8000
 struct raw_state {
     uint32_t is_ready;
     uint16_t sources[RAW_SIGNALS]; /* of each signal, from the first one on; 0: it doesn't interrupt */
@@ -301,7 +303,8 @@ enum raw_verb {
     STEP_TIME,    /* about is the time */
     STEP_BEGIN,   /* the thread's first step: about is its pthread_t */
     STEP_END,     /* the thread takes no step any more */
-    STEP_NAME,    /* the lock at that address is the object whose number stands in place of a place; if the mode isn't 0 it may be another lock than before */
+    STEP_NAME,    /* the lock at that address is the object whose number stands in place of a place; if the mode isn't 0 it may be another lock than before,
+                     which isn't taken as this one before the step's time */
     STEP_TAKE,    /* after it was taken, by a mode with RAW_TIMED */
     STEP_RELEASE, /* before it is released; in place of a place stands the object's number, if that is known */
     STEP_RUN,     /* a routine that runs once is about to run */
@@ -316,7 +319,7 @@ enum raw_verb {
     STEP_WOKEN,   /* the wait has ended, and not by a limit of time */
     STEP_COUNT,   /* a semaphore or barrier was initialised: in place of a place stands its number and one more, or 0 if processes share it */
     STEP_POST,    /* about to post a semaphore */
-    STEP_GOT,     /* a wait for a semaphore was successful */
+    STEP_GOT,     /* a wait for a semaphore was successful, or a try if the mode isn't 0 */
     STEP_ARRIVE,  /* about to wait at a barrier */
     STEP_LEAVE,   /* the wait has ended */
     STEP_VERBS

@@ -35,11 +35,12 @@
 /* How long the end of what was left in the background is waited for without a word. */
 #define PATIENCE_NANOSECONDS 500000000
 
-/* How often it is seen whether a signal came to the whole group, and how long it takes from the first look to the second;
+/* How often it is seen at least whether a signal came to the whole group, and how long it takes from the first look to the second;
    then twice as long each time. Who sends it to this process and then to the group may have to wait for a processor in
-   between. */
+   between: it is seen until the sender has slept, or has had so many ticks of one. */
 #define WITNESS_LOOKS 5
 #define WITNESS_NANOSECONDS 1000000
+#define SENDER_TICKS 4
 
 /* ---- Finding the command. */
 
@@ -213,6 +214,26 @@ static bool has_got(pid_t witness, int signal_number) {
     return pending >> (signal_number - 1) & 1;
 }
 
+/* The ticks of a processor that a process has had, if it runs or waits for one, or for the system; -1 if it sleeps or is gone. */
+static long ticks_if_awake(pid_t process) {
+    char path[64], line[1024], state = 0;
+    long of_program = 0, of_system = 0;
+    snprintf(path, sizeof path, "/proc/%d/stat", (int)process);
+    FILE *file = process > 0 ? fopen(path, "r") : NULL;
+    const char *name_end = file && fgets(line, sizeof line, file) ? strrchr(line, ')') : NULL;
+    if (file)
+        fclose(file);
+    if (!name_end || sscanf(name_end, ") %c %*d %*d %*d %*d %*d %*u %*u %*u %*u %*u %ld %ld", &state, &of_program, &of_system) != 3)
+        return -1;
+    return state == 'R' || state == 'D' ? of_program + of_system : -1;
+}
+
+/* Whether a sender that had had so many ticks may not have come to its next signal yet. */
+static bool may_send_more(pid_t sender, long ticks) {
+    long now = ticks < 0 ? -1 : ticks_if_awake(sender);
+    return now >= 0 && now - ticks < SENDER_TICKS;
+}
+
 static void pause_for(long nanoseconds) {
     struct timespec pause = {0, nanoseconds};
     nanosleep(&pause, NULL);
@@ -220,22 +241,24 @@ static void pause_for(long nanoseconds) {
 
 /* Whether a signal that has just come was for the whole group. Then the next one is seen by a new witness, and what came to this process
    twice, as by `timeout`, counts once. */
-static bool is_to_group(pid_t *witness, int signal_number) {
-    for (int i = 0; i < WITNESS_LOOKS; i++) {
-        bool has_it = has_got(*witness, signal_number);
-        pause_for(WITNESS_NANOSECONDS << i);
-        if (!has_it)
-            continue;
-        sigset_t alike;
-        struct timespec none = {0, 0};
-        sigemptyset(&alike);
-        sigaddset(&alike, signal_number);
-        sigtimedwait(&alike, NULL, &none);
-        end_witness(witness);
-        *witness = begin_witness();
-        return true;
+static bool is_to_group(pid_t *witness, const siginfo_t *info) {
+    long ticks = ticks_if_awake(info->si_pid);
+    bool may_come = true, has_it = false;
+    for (int i = 0; may_come && !has_it; i++) {
+        may_come = i < WITNESS_LOOKS || may_send_more(info->si_pid, ticks); /* (before the look, so that there is one after it) */
+        has_it = has_got(*witness, info->si_signo);
+        pause_for(WITNESS_NANOSECONDS << (i < WITNESS_LOOKS ? i : 0));
     }
-    return false;
+    if (!has_it)
+        return false;
+    sigset_t alike;
+    struct timespec none = {0, 0};
+    sigemptyset(&alike);
+    sigaddset(&alike, info->si_signo);
+    sigtimedwait(&alike, NULL, &none);
+    end_witness(witness);
+    *witness = begin_witness();
+    return true;
 }
 
 /* ---- The run. */
@@ -342,7 +365,7 @@ static void heed(int signal_number) {
    terminal that hangs up sends SIGHUP to the leader of its session alone. */
 static bool has_it_already(struct run *run, const siginfo_t *info) {
     bool is_to_leader = info->si_signo == SIGHUP && getsid(0) == getpid();
-    bool is_for_it = is_to_group(&run->witness, info->si_signo) || (info->si_code == SI_KERNEL && !is_to_leader);
+    bool is_for_it = is_to_group(&run->witness, info) || (info->si_code == SI_KERNEL && !is_to_leader);
     return is_for_it && getpgid(run->command) == getpgrp();
 }
 
@@ -351,7 +374,7 @@ static bool has_it_already(struct run *run, const siginfo_t *info) {
 static void pass_on(struct run *run, const siginfo_t *info) {
     pid_t child = child_that_sent(info, run->command);
     if (child) {
-        if (!is_to_group(&run->witness, info->si_signo))
+        if (!is_to_group(&run->witness, info))
             send_to_parent(info, child == run->command);
         return;
     }

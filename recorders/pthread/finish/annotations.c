@@ -211,7 +211,7 @@ void write_breaches(const char *folder) {
     if (!breach_count)
         return;
     FILE *texts = created(text), *words = created(places);
-    begin_places(words);
+    begin_places(words, (uint32_t)frames);
     for (size_t i = 0; i < breach_count; i++)
         write_breach(texts, words, &all_breaches[i]);
     closed(texts, text);

@@ -29,7 +29,9 @@ static void write_line(FILE *file, const char *name, unsigned subclass, const ch
         return;
     fputs(mode ? "acq," : "rel,", file);
     write_name(file, name);
-    fprintf(file, ",%u%s%s\n", subclass, mode ? "," : "", mode ? mode : "");
+    fputs((const char[]){',', (char)('0' + subclass), mode ? ',' : 0, 0}, file); /* one of 0 to 7 */
+    fputs(mode ? mode : "", file);
+    putc('\n', file);
 }
 
 static void write_event(struct trace *t, const struct held *h, const char *mode, uint32_t place) {
@@ -187,14 +189,12 @@ static const char *mode_word(const struct trace *t, const struct held *h) {
 
 void take(struct trace *t, const struct raw_record *r) {
     enum mode mode = raw_mode(r->what);
-    bool is_in_order = raw_has(r->what, RAW_IN_ORDER) && t->version > 1;
+    bool is_in_order = raw_has(r->what, RAW_IN_ORDER);
     struct held h = {.object = raw_object(r->what), .place = r->place, .mode = mode, .is_own = raw_object(r->what) == own_object(t->arena, t->raw)};
     if (t->depth == RAW_HELD)
         return;
     h.key = class_key_of(t->arena, h.object);
-    if (is_try(mode) && t->version == 1)
-        count(t, &sums.tries, 1);
-    else if (h.key >= MAX_KEYS)
+    if (h.key >= MAX_KEYS)
         count(t, &sums.classes, 1);
     else if (t->events + 2 + 3 * MAX_HELD + (t->source ? ABOUT_INTERRUPTS : 0) > MAX_EVENTS) /* with a lock that is dropped, those set aside, and the releases at the end */
         count(t, &sums.raw.full, 1);

@@ -1,12 +1,14 @@
 /* The files that are written, among them those of places and of classes. */
 #include "trace.h"
 
+#include <stdio_ext.h>
 #include <string.h>
 
 FILE *created(const char *path) {
     FILE *file = fopen(path, "w");
     if (!file)
         refuse_file("can't be written", path);
+    __fsetlocking(file, FSETLOCKING_BYCALLER);
     return file;
 }
 
@@ -46,8 +48,8 @@ void write_quoted(FILE *file, const char *text, size_t most) {
 
 /* ---- The places' file: a word, the modules, how many callers a record has, and eight bytes for each. */
 
-void begin_places(FILE *file) {
-    uint32_t many = (uint32_t)module_count, each = (uint32_t)frames;
+void begin_places(FILE *file, uint32_t each) {
+    uint32_t many = (uint32_t)module_count;
     fwrite("places1\n", 8, 1, file);
     fwrite(&many, sizeof many, 1, file);
     for (size_t i = 0; i < module_count; i++) {
@@ -59,10 +61,10 @@ void begin_places(FILE *file) {
 }
 
 void write_place(FILE *file, const struct place *place) {
-    for (uint32_t i = 0; i < (uint32_t)frames; i++) {
-        uint64_t word = place && i < place->count ? place->words[i] : UINT64_MAX;
-        fwrite(&word, sizeof word, 1, file);
-    }
+    uint64_t words[RAW_FRAMES];
+    for (uint32_t i = 0; i < (uint32_t)frames; i++)
+        words[i] = place && i < place->count ? place->words[i] : UINT64_MAX;
+    fwrite(words, sizeof *words, (size_t)frames, file);
 }
 
 /* ---- The classes. */
@@ -95,7 +97,7 @@ void write_classes(const char *folder) {
     snprintf(path, sizeof path, "%s/classes", folder);
     snprintf(places, sizeof places, "%s/classes.places", folder);
     FILE *file = created(path), *callers = created(places);
-    begin_places(callers);
+    begin_places(callers, (uint32_t)frames);
     for (size_t i = 0; i < key_count && i < MAX_KEYS; i++) {
         write_class(file, &keys[i]);
         write_place(callers, keys[i].made);

@@ -2,7 +2,7 @@
 
      finish FOLDER VERSION [FRAMES [history]]
 
-   FOLDER/task-NNNN.csv        the trace of one thread, in version 1 or 2 of the format
+   FOLDER/task-NNNN.csv        the trace of one thread, in version 2 of the format
    FOLDER/task-NNNN.csv.places for each of its records, where the call came from
    FOLDER/objects              the same traces with the names of single locks
    FOLDER/classes              for each class's name, where that is
@@ -64,11 +64,10 @@ static int number_of(const char *text, int most) {
 }
 
 int main(int argc, char **argv) {
-    int version = argc > 2 ? number_of(argv[2], 2) : 0;
-    frames = argc > 3 ? number_of(argv[3], RAW_FRAMES) : DEFAULT_FRAMES;
-    bool with_history = argc == 5 && strcmp(argv[4], HISTORY) == 0;
-    if (argc < 3 || argc > 4 + with_history || !version || !frames) {
-        fprintf(stderr, "usage: finish FOLDER VERSION [FRAMES [" HISTORY "]], with VERSION 1 or 2 and FRAMES 1 to %d\n", RAW_FRAMES);
+    frames = argc > 2 ? number_of(argv[2], RAW_FRAMES) : DEFAULT_FRAMES;
+    bool with_history = argc == 4 && strcmp(argv[3], HISTORY) == 0;
+    if (argc < 2 || argc > 3 + with_history || !frames) {
+        fprintf(stderr, "usage: finish FOLDER [FRAMES [" HISTORY "]], with FRAMES 1 to %d\n", RAW_FRAMES);
         return 2;
     }
     char recorder[4096];
@@ -81,7 +80,7 @@ int main(int argc, char **argv) {
     find_shared();
     find_joins();
     name_objects();
-    write_traces(argv[1], version);
+    write_traces(argv[1]);
     write_sets(argv[1]);
     write_lives(argv[1]);
     find_breaches();

@@ -247,13 +247,13 @@ const char *tell_signal(char *text, size_t room, unsigned number);
 /* ---- traces.c */
 
 struct sums {
-    uint64_t threads, operations, events, tries, classes, deep, in_fork, alike, waiting, waiting_at_exit, held_at_end;
+    uint64_t threads, operations, events, classes, deep, in_fork, alike, waiting, waiting_at_exit, held_at_end;
     struct raw_left_out raw;
 };
 
 extern struct sums sums;
 
-void write_traces(const char *folder, int version);
+void write_traces(const char *folder);
 bool write_in_set(const char *folder, const struct source *source, struct arena *a, const struct raw_thread *raw, uint32_t number, bool is_frame);
 void end_set(void);
 void write_waiting(FILE *file);
@@ -273,7 +273,7 @@ void write_histories_left_out(FILE *file);
 
 FILE *created(const char *path);
 void closed(FILE *file, const char *path);
-void begin_places(FILE *file);
+void begin_places(FILE *file, uint32_t each); /* the callers of each record */
 void write_place(FILE *file, const struct place *place);
 void write_classes(const char *folder);
 void write_quoted(FILE *file, const char *text, size_t most);

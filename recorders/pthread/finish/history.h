@@ -113,7 +113,7 @@ struct line {
 
 struct message {
     uint64_t at;     /* which step gives it */
-    uint32_t number; /* in the file; 0 while nobody gets it */
+    uint32_t number; /* in the file; 0 while nobody gets it and it is no start */
 };
 
 struct counted; /* a semaphore or a barrier */

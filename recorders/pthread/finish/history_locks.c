@@ -86,7 +86,7 @@ void be_object(struct locks *l, uint32_t number, uint32_t object) {
         *value_at(&l->by_object, object) = number;
 }
 
-/* A lock that is met first by two threads at once is named by both, and is one lock: so it is while a thread has it. */
+/* A lock that is met first by several threads at once is named by each before any of them takes it, and is one lock. */
 void name_lock_at(struct locks *l, const struct threads *t, uint64_t address, uint32_t object, bool is_another) {
     uint32_t *number = value_at(&l->by_address, address);
     const struct lock *there = *number ? &l->locks[*number - 1] : NULL;

@@ -1,5 +1,5 @@
-/* What threads tell each other: who is started, joined, woken, or let through. Each is a message that one gives and another one gets; that nobody
-   gets isn't written. */
+/* What threads tell each other: who is started, joined, woken, or let through. Each is a message that one gives and another one gets. One that nobody
+   gets is written only if it is a start: so threads can be told apart by who started them, and as which one. */
 #include "history.h"
 
 /* ---- Threads. */
@@ -9,6 +9,7 @@ static void start(struct history *h, const struct task *task, const struct step 
     if (!number)
         return;
     h->threads.starts[number - 1].message = give(h, task, step->place);
+    h->messages[h->message_count - 1].number = 1;
     if (h->threads.starts[number - 1].thread)
         *value_at(&h->threads.latest, h->threads.starts[number - 1].thread) = number;
 }
@@ -88,12 +89,14 @@ static void post(struct history *h, const struct task *task, const struct step *
         PUSH(c->messages, c->message_count, give(h, task, step->place));
 }
 
-/* So many waits as its count was at first get nothing, and then each gets the next post. */
+/* So many waits as its count was at first get nothing, and then each gets the next post. A try waits for nobody, and takes that from those who do. */
 static void got(struct history *h, const struct task *task, const struct step *step) {
     struct counted *c = counted_at(h, step->about);
     if (!c || c->waits++ < c->count || c->got == c->message_count)
         return;
-    get(h, task, c->messages[c->got++], step->place);
+    uint32_t message = c->messages[c->got++];
+    if (!step->mode)
+        get(h, task, message, step->place);
 }
 
 /* Who comes last gets the messages of all others, and gives one that these get as they go on: so each is after all others' coming. */

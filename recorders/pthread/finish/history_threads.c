@@ -97,7 +97,7 @@ static void find_starts(struct threads *t) {
     free(order);
 }
 
-/* ---- Names: that of the trace of the thread's own code, if it has one. */
+/* ---- Names: that of the trace of the thread's own code, if it has one, or `main` for the first thread of a process. */
 
 static void name_by_trace(struct threads *t, const struct arena *a, uint32_t process, uint32_t n) {
     const struct raw_thread *raw = part_of(a, RAW_THREADS, n);
@@ -109,11 +109,14 @@ static void name_by_trace(struct threads *t, const struct arena *a, uint32_t pro
 }
 
 static void name_tasks(struct threads *t, const struct arena *a, uint32_t process) {
+    const struct raw_process *raw = part_of(a, RAW_PROCESSES, process);
     unsigned long unnamed = 0;
     for (uint32_t n = 1; n <= count_of(a, RAW_THREADS); n++)
         name_by_trace(t, a, process, n);
     for (size_t i = 0; i < t->task_count; i++)
-        if (!t->tasks[i].name[0])
+        if (!t->tasks[i].name[0] && t->tasks[i].self == raw->first)
+            strcpy(t->tasks[i].name, "main");
+        else if (!t->tasks[i].name[0])
             snprintf(t->tasks[i].name, sizeof t->tasks->name, "thread-%lu", ++unnamed);
 }
 

@@ -63,7 +63,19 @@ static void write_record(FILE *file, const struct history *h, const struct line 
 
 /* ---- The file. */
 
-static void write_kinds(FILE *file, FILE *places, const struct history *h) {
+/* The files beside a history: the callers of each record without wrappers, and the place that its call returns to, which may be in one. */
+struct beside {
+    FILE *places, *calls;
+};
+
+static void write_beside(const struct beside *to, const struct history *h, uint32_t place) {
+    const struct raw_place *raw = place ? part_of(h->arena, RAW_PLACES, place) : NULL;
+    uint64_t word = raw && raw->count ? global_word(h->arena, raw->callers[0]) : UINT64_MAX;
+    write_place(to->places, place ? place_numbered(h->arena, place) : NULL);
+    fwrite(&word, sizeof word, 1, to->calls);
+}
+
+static void write_kinds(FILE *file, const struct beside *beside, const struct history *h) {
     for (size_t i = 0; i < h->locks.count; i++) {
         const struct lock *lock = &h->locks.locks[i];
         if (!lock->is_used || lock->fault || lock->kind == LOCK_PLAIN)
@@ -71,16 +83,16 @@ static void write_kinds(FILE *file, FILE *places, const struct history *h) {
         fputs(lock->kind == LOCK_THREAD ? "thread," : "once,", file);
         write_name(file, lock->name);
         putc('\n', file);
-        write_place(places, NULL);
+        write_beside(beside, h, 0);
     }
 }
 
-static void write_lines(FILE *file, FILE *places, struct history *h) {
+static void write_lines(FILE *file, const struct beside *beside, const struct history *h) {
     for (size_t i = 0; i < h->line_count; i++) {
         if (!is_written(h, &h->lines[i]))
             continue;
         write_record(file, h, &h->lines[i]);
-        write_place(places, place_numbered(h->arena, h->lines[i].place));
+        write_beside(beside, h, h->lines[i].place);
     }
 }
 
@@ -117,18 +129,22 @@ static void write_left_out(const char *path, const struct history *h) {
 }
 
 void write_history(const char *folder, struct history *h, uint32_t number) {
-    char path[4400], places_path[4500], left_out[4500];
+    char path[4400], places[4500], calls[4500], left_out[4500];
     snprintf(path, sizeof path, "%s/history/process-%04u.csv", folder, number);
-    snprintf(places_path, sizeof places_path, "%s.places", path);
+    snprintf(places, sizeof places, "%s.places", path);
+    snprintf(calls, sizeof calls, "%s/history/process-%04u.calls.places", folder, number);
     snprintf(left_out, sizeof left_out, "%s/history/process-%04u.left-out", folder, number);
-    FILE *file = created(path), *places = created(places_path);
+    FILE *file = created(path);
+    struct beside beside = {created(places), created(calls)};
     number_messages(h);
     fputs("history,1\n", file);
-    begin_places(places);
-    write_place(places, NULL);
-    write_kinds(file, places, h);
-    write_lines(file, places, h);
+    begin_places(beside.places, (uint32_t)frames);
+    begin_places(beside.calls, 1);
+    write_beside(&beside, h, 0);
+    write_kinds(file, &beside, h);
+    write_lines(file, &beside, h);
     closed(file, path);
-    closed(places, places_path);
+    closed(beside.places, places);
+    closed(beside.calls, calls);
     write_left_out(left_out, h);
 }

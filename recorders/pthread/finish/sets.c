@@ -18,7 +18,9 @@ struct source {
     unsigned signal;
     uint64_t handler;       /* as a word */
     uint64_t runs, continued;
+    uint64_t unblocks;      /* as a mask: signals that its runs unblock */
     bool is_sent_to_process; /* else to threads alone */
+    uint32_t sent;           /* of enum raw_sent: how its signals were sent */
     bool is_of_locking;      /* its program takes locks */
     bool has_others;         /* a program that has it starts threads or shares locks, or a handler unblocks it */
     bool is_late;            /* it comes only when its thread has taken its last lock */
@@ -123,6 +125,7 @@ static void read_sources(struct arena *a) {
             continue;
         a->sources[n] = source_like(raw->signal, global_word(a, raw->handler));
         a->sources[n]->continued += raw->continued;
+        a->sources[n]->unblocks |= raw->unblocks;
         a->sources[n]->is_of_locking |= is_locking;
         a->sources[n]->has_others |= has_others || (a->raw->unblocked_by_runs >> (raw->signal - 1) & 1);
     }
@@ -140,6 +143,7 @@ static void read_runs(const struct arena *a) {
             continue;
         source->runs += run->count;
         source->is_sent_to_process |= (run->sent & SENT_TO_PROCESS) != 0;
+        source->sent |= run->sent;
     }
 }
 
@@ -294,9 +298,27 @@ static bool is_sent_to(const struct source *source, const struct arena *a, const
     return false;
 }
 
+/* What only timers send comes in only where one is armed. */
+static bool is_by_timer(const struct source *source) { return (source->sent & (SENT_BY_TIMER | SENT_BY_OTHERS)) == SENT_BY_TIMER; }
+
+static const struct source *source_on(const struct arena *a, const struct raw_state *s, unsigned signal) {
+    const struct source *source = source_numbered(a, s->sources[signal - 1] & ~RAW_UNARMED);
+    return source && !(s->sources[signal - 1] & RAW_UNARMED && is_by_timer(source)) ? source : NULL;
+}
+
+/* Whether another source may come in that unblocks the signal, which is blocked. */
+static bool is_opened(const struct source *source, const struct arena *a, const struct raw_state *s) {
+    for (unsigned signal = 1; !s->sources[source->signal - 1] && signal <= RAW_SIGNALS; signal++) {
+        const struct source *other = source_on(a, s, signal);
+        if (other && other != source && other->unblocks >> (source->signal - 1) & 1)
+            return true;
+    }
+    return false;
+}
+
 bool may_interrupt(const struct source *source, const struct arena *a, const struct raw_thread *t, uint32_t state) {
     const struct raw_state *s = part_of(a, RAW_STATES, state);
-    bool is_on = s && s->is_ready && source_numbered(a, s->sources[source->signal - 1]) == source;
+    bool is_on = s && s->is_ready && (source_on(a, s, source->signal) == source || is_opened(source, a, s));
     return is_on && (source->is_sent_to_process || is_sent_to(source, a, t));
 }
 
@@ -428,6 +450,16 @@ static void write_locks(FILE *file, const char *what, const struct locks *locks,
     putc(']', file);
 }
 
+/* The signals whose handlers unblock that of a source. */
+static void write_openers(FILE *file, const struct source *s) {
+    char text[32];
+    size_t count = 0;
+    for (size_t i = 0; i < source_count; i++)
+        if (sources[i] != s && sources[i]->unblocks >> (s->signal - 1) & 1)
+            fprintf(file, "%s\"%s\"", count++ ? ", " : ", \"opened_by\": [", tell_signal(text, sizeof text, sources[i]->signal));
+    fputs(count ? "]" : "", file);
+}
+
 static void write_source(FILE *file, const struct source *s) {
     fprintf(file, "{\"number\": %u, ", s->number);
     write_about(file, s);
@@ -437,7 +469,8 @@ static void write_source(FILE *file, const struct source *s) {
     write_locks(file, "others", &s->others, NULL, NULL);
     write_locks(file, "rwlocks", &s->rwlocks, NULL, NULL);
     write_locks(file, "queued", &s->queued, &s->written, &with_writers);
-    fputs(s->is_late ? ", \"late\": true}" : "}", file);
+    write_openers(file, s);
+    fprintf(file, "%s%s}", s->is_late ? ", \"late\": true" : "", is_by_timer(s) ? ", \"timers\": true" : "");
 }
 
 static void write_never(FILE *file, const struct source *s) {

@@ -95,7 +95,6 @@ static void write_losses(FILE *file) {
     write_loss(file, "beyond-classes", sums.classes);
     write_loss(file, "fork-handlers", sums.in_fork);
     write_loss_with(file, "beyond-held", sums.deep + raw->deep, write_dropped);
-    write_loss(file, "tries", sums.tries);
     write_loss(file, "retried-tries", raw->retried);
     write_loss(file, "reentered", raw->reentered);
     write_loss(file, "unfollowed-handlers", sum_of(unfollowed));

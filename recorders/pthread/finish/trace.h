@@ -19,7 +19,6 @@ struct trace {
     size_t depth, written;
     struct content content;
     uint64_t events;
-    int version;
     bool waits; /* its last record is a lock that it waits for */
     const char *name;
     FILE *weak; /* lines about its weak acquisitions; NULL if it has none */

@@ -84,9 +84,9 @@ static void open_files(struct trace *t, const struct names *n) {
     t->text = created(n->text);
     t->objects = created(n->objects);
     t->places = created(n->places);
-    fprintf(t->text, "lockdep,%d\n", t->version);
-    fprintf(t->objects, "lockdep,%d\n", t->version);
-    begin_places(t->places);
+    fputs("lockdep,2\n", t->text);
+    fputs("lockdep,2\n", t->objects);
+    begin_places(t->places, (uint32_t)frames);
     write_place(t->places, NULL);
 }
 
@@ -182,13 +182,12 @@ bool write_in_set(const char *folder, const struct source *source, struct arena 
     t.name = name;
     t.arena = a;
     t.raw = raw;
-    t.version = 2;
     t.source = source;
     t.is_frame = is_frame;
     t.objects = created(path);
     t.places = created(places);
     fputs("lockdep,2\n", t.objects);
-    begin_places(t.places);
+    begin_places(t.places, (uint32_t)frames);
     write_place(t.places, NULL);
     write_records_of_set(&t);
     closed(t.objects, path);
@@ -221,7 +220,7 @@ static void make_folder(const char *folder) {
         refuse_file("can't be made", path);
 }
 
-void write_traces(const char *folder, int version) {
+void write_traces(const char *folder) {
     static struct trace t;
     uint64_t threads = 0;
     make_folder(folder);
@@ -240,7 +239,6 @@ void write_traces(const char *folder, int version) {
             memset(&t, 0, sizeof t);
             t.arena = &arenas[i];
             t.raw = raw;
-            t.version = version;
             arenas[i].traces[n] = write_trace(folder, &t);
             arenas[i].has_events[n] = t.events != 0;
         }

@@ -116,6 +116,6 @@ static void tell_frames(struct module *m, uint64_t address) {
 void tell_code_lines(const char *module) {
     struct module *m = module_named(module);
     char line[64];
-    while (fgets(line, sizeof line, stdin))
+    while (fgets(line, sizeof line, stdin) && *line != '\n')
         tell_frames(m, strtoull(line, NULL, 16));
 }

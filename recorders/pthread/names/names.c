@@ -9,14 +9,11 @@
      source PATH             a source file of these, but for what comes with the system
      CLASS <tab> RULE <tab> TEXT [<tab> PATH]    PATH is of the file that TEXT begins with
 
-     names --lines MODULE
+     names --places MODULE
 
-   For each address on standard input, of a static variable of the module, it writes `PATH:LINE`, or `??:0`.
-
-     names --code MODULE
-
-   For each address on standard input, of code in C or C++, it writes the address, and two lines for each function, inlined ones first:
-   the symbol's name, and `PATH:LINE`, or `PATH:?` or `??:?` as far as that isn't known. Of other code it writes `??` and `??:0`.
+   For each address on standard input up to an empty line, of code in C or C++, it writes the address, and two lines for each function,
+   inlined ones first: the symbol's name, and `PATH:LINE`, or `PATH:?` or `??:?` as far as that isn't known. Of other code it writes `??`
+   and `??:0`. For each address behind the empty line, of a static variable of the module, it writes `PATH:LINE`, or `??:0`.
 
    Names are found once, right after the program has ended, as long as its files are still those that ran. Debug information may be
    damaged, so it is read by a process of its own: what that ends with has no names. */
@@ -235,13 +232,14 @@ int main(int argc, char **argv) {
     struct dirent **entries;
     char **arenas = NULL;
     size_t count = 0;
-    if (argc == 3 && (strcmp(argv[1], "--lines") == 0 || strcmp(argv[1], "--code") == 0)) {
+    if (argc == 3 && strcmp(argv[1], "--places") == 0) {
         limit_process();
-        (strcmp(argv[1], "--lines") == 0 ? tell_lines : tell_code_lines)(argv[2]);
+        tell_code_lines(argv[2]);
+        tell_lines(argv[2]);
         return 0;
     }
     if (argc != 2) {
-        fputs("usage: names FOLDER, names --lines MODULE, or names --code MODULE\n", stderr);
+        fputs("usage: names FOLDER, or names --places MODULE\n", stderr);
         return 2;
     }
     const char *raw = written("%s/raw", argv[1]);

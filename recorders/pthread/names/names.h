@@ -274,7 +274,7 @@ struct found {
 };
 
 void tell_lines(const char *module); /* where the static variables are declared whose addresses are on standard input */
-void tell_code_lines(const char *module); /* where the code is whose addresses are on standard input */
+void tell_code_lines(const char *module); /* where the code is whose addresses are on standard input, up to an empty line */
 
 /* variables.c: by what is in the module or in a frame, wherever it was met. */
 bool static_variable(struct module *m, uint64_t at, struct found *found);

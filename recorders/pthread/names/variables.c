@@ -74,9 +74,11 @@ static const char *line_of_variable(struct module *m, uint64_t at) {
 void tell_lines(const char *module) {
     struct module *m = module_named(module);
     char line[64];
-    index_module(m);
-    while (fgets(line, sizeof line, stdin))
+    for (bool is_indexed = false; fgets(line, sizeof line, stdin); is_indexed = true) {
+        if (!is_indexed)
+            index_module(m);
         puts(line_of_variable(m, strtoull(line, NULL, 16)));
+    }
 }
 
 /* ---- Of a frame. */

@@ -33,15 +33,6 @@ static void tell_apart(struct thread *t, uint32_t i) {
             t->fresh_end = t->raw->count;
 }
 
-/* Where the lock is taken: one caller, and more if it is taken in a new way. */
-uint32_t place_of_acquisition(struct thread *t, struct call call, bool is_new) {
-    if (!is_new)
-        return cached_place(t, call.caller);
-    struct stack stack;
-    take_stack(&stack, call, RAW_FRAMES);
-    return place_of(&stack);
-}
-
 static bool write_acquisition(struct thread *t, uint32_t what, struct call call, bool is_new) {
     if (t->raw->count >= RAW_LIMIT) {
         t->raw->left_out.full++;
@@ -199,14 +190,14 @@ static bool use_steps(struct thread *t, uint32_t size) {
     return true;
 }
 
-/* Where a step is to be, if it was missed there before: what is taken once or twice pushes nothing out. */
+/* Where a step is to be, if there is none, or it was missed there before: what is taken once or twice pushes nothing out. */
 static struct step *place_of_step(struct thread *t, uint64_t key) {
     if (!t->steps_mask && (is_memo_off || !use_steps(t, FIRST_STEPS)))
         return NULL;
     struct step *s = step_at(t, key);
-    bool is_missed_again = s->missed == key;
+    bool is_missed_again = s->missed == key, is_free = !s->held.lock || s->era != t->era;
     s->missed = key;
-    if (!is_missed_again)
+    if (!is_missed_again && !is_free)
         return NULL;
     if (s->held.lock && ++t->steps_replaced > t->steps_mask && t->steps_mask + 1 < MOST_STEPS && use_steps(t, 8 * (t->steps_mask + 1)))
         s = step_at(t, key);
@@ -221,8 +212,26 @@ static bool are_single(const struct thread *t) {
     return true;
 }
 
+/* Where the callers stand that tell a place. False if they are too many, or if nobody knows that they stand there. */
+static bool find_standing(struct standing *standing, struct call call, uint32_t place) {
+    struct stack stack;
+    uint32_t count = (uint32_t)((struct raw_place *)part_of(RAW_PLACES, place))->count;
+    *standing = (struct standing){.frame = call.frame};
+    if (count == 1)
+        return true;
+    if (count <= STANDING)
+        take_stack(&stack, call, count);
+    if (count > STANDING || !stack.is_bounded || stack.count != count)
+        return false;
+    memcpy(standing->at, stack.at, count * sizeof *stack.at);
+    memcpy(standing->callers, stack.callers, count * sizeof *stack.callers);
+    standing->count = count;
+    return true;
+}
+
 /* A step that a jump leaves half written is none: `from` is never 0. */
-static void write_step(struct step *s, const struct thread *t, uintptr_t from, const uint64_t *slot, uint64_t word, uint32_t place) {
+static void write_step(struct step *s, const struct thread *t, uintptr_t from, const uint64_t *slot, uint64_t word,
+                       const struct standing *standing, uint32_t place) {
     const struct entry *e = &t->entries[t->depth] - 1;
     s->from = 0;
     __atomic_signal_fence(__ATOMIC_SEQ_CST);
@@ -232,23 +241,62 @@ static void write_step(struct step *s, const struct thread *t, uintptr_t from, c
     s->slot = slot;
     s->word = word;
     s->era = t->era;
+    s->standing = *standing;
     s->record = (struct raw_record){what_written(&e->held), place};
     __atomic_signal_fence(__ATOMIC_SEQ_CST);
-    s->from = from;
+    s->from = standing->count ? ~from : from;
+}
+
+/* Whether the callers of a step stand on so much of a stack. */
+static bool are_callers_of(const struct step *s, uintptr_t frame, uint64_t stack_bytes) {
+    const struct standing *standing = &s->standing;
+    return standing->count && standing->at[standing->count - 1] < stack_bytes && stand_at(standing, frame);
+}
+
+/* Functions for which another one takes a lock take it in several steps. Each but the first is found by what stands where the first one has its
+   outermost caller, and never where the first one is. */
+static uint64_t key_of_other(const struct step *first, uint64_t key, uintptr_t frame, uint64_t stack_bytes) {
+    uint32_t at = first->standing.at[first->standing.count - 1];
+    uint64_t outermost = at < stack_bytes ? *(const uintptr_t *)(frame + at) : 0;
+    return ((outermost * UINT64_C(0x9e3779b97f4a7c15) >> 32 ^ key) | 1) ^ (key & 1);
+}
+
+/* The step with the callers of a call, if the first one's don't stand in the same frame. */
+static const struct step *step_of_callers(const struct thread *t, const struct step *first, uint64_t key, struct call call) {
+    uint64_t stack_bytes = stack_above(call);
+    if (are_callers_of(first, call.frame, stack_bytes))
+        return first;
+    const struct step *other = step_at(t, key_of_other(first, key, call.frame, stack_bytes));
+    return other->from == first->from && are_callers_of(other, call.frame, stack_bytes) ? other : &no_step;
+}
+
+__attribute__((noinline)) bool step_on_by_callers(struct thread *t, const struct step *first, uintptr_t lock, uintptr_t from, struct call call) {
+    bool is_first = first->standing.frame == call.frame && stand_at(&first->standing, call.frame);
+    return take_step(t, is_first ? first : step_of_callers(t, first, step_key(t->hash, lock, from), call), lock, from);
+}
+
+/* Whether the newest lock was taken in another step than the one that is found first. */
+static bool is_other(const struct thread *t, const struct step *first, uintptr_t from, struct call call) {
+    const struct entry *e = &t->entries[t->depth] - 1;
+    return first->from == ~from && first->held.lock == e->held.lock && first->before == e->level.hash &&
+           first->era == t->era && !are_callers_of(first, call.frame, stack_above(call));
 }
 
 /* Notes how the newest lock was taken, if that was nothing new, and will be the same again. */
-static void note_step(struct thread *t, uintptr_t from, uintptr_t caller) {
+static void note_step(struct thread *t, uintptr_t from, struct call call) {
     const struct held *h = &(&t->entries[t->depth] - 1)->held;
-    uint64_t word;
-    if (h->record < t->fresh_end || !h->is_written || h->kind == KIND_COUNTED)
+    uint64_t word, key = step_key(hash_of(t, t->depth - 1), h->lock, from);
+    if (h->record < t->fresh_end || !h->is_written || h->kind == KIND_COUNTED || t->watched.call.frame)
         return;
-    struct step *s = place_of_step(t, step_key(hash_of(t, t->depth - 1), h->lock, from));
+    uint32_t place = record_at(t, h->record)->place;
+    const struct step *first = step_at(t, key);
+    struct step *s = place_of_step(t, is_other(t, first, from, call) ? key_of_other(first, key, call.frame, stack_above(call)) : key);
+    struct standing standing;
     if (!s || *looks_left_at(raw_object(h->what[BY_CLASSES])) || !is_lasting(object_of(h), t->depth > 1) || !are_single(t))
         return;
     const uint64_t *slot = lock_slot(h->lock, object_of(h), &word);
-    if (slot)
-        write_step(s, t, from, slot, word, cached_place(t, caller));
+    if (slot && find_standing(&standing, call, place))
+        write_step(s, t, from, slot, word, &standing, place);
 }
 
 static void take_lock(struct thread *t, uintptr_t lock, uint8_t mode, enum kind kind, struct call call) {
@@ -265,7 +313,7 @@ static void take_lock(struct thread *t, uintptr_t lock, uint8_t mode, enum kind 
     }
     push_held(t, lock, object, mode, kind, call, false);
     put_taking_of(t, &t->entries[t->depth - 1].held, is_timed, call.caller);
-    note_step(t, step_from(call.caller, mode, kind), call.caller);
+    note_step(t, step_from(call.caller, mode, kind), call);
 }
 
 void acquired(uintptr_t lock, uint8_t mode, enum kind kind, struct call call) {

@@ -360,12 +360,14 @@ EXPORT int sem_destroy(sem_t *lock) {
     return answer;
 }
 
-/* In the history a post is a message to one of those that wait. */
-static int got(const sem_t *lock, int answer, struct call call) {
-    if (answer == 0)
-        NOTE_MESSAGE(STEP_GOT, (uintptr_t)lock, true, call);
+/* In the history a post is a message to one of those that wait. A try takes it from them, and would have gone on without it. */
+static int got_by(const sem_t *lock, bool is_try, int answer, struct call call) {
+    if (answer == 0 && UNLIKELY(has_history()))
+        put_message_by(STEP_GOT, is_try, (uintptr_t)lock, true, call);
     return answer;
 }
+
+static int got(const sem_t *lock, int answer, struct call call) { return got_by(lock, false, answer, call); }
 
 /* Tries first, as with a mutex. A wait that a signal ends is withdrawn. */
 #define WAITING(name, mode, is_sound, parameters, arguments)                                                           \
@@ -396,7 +398,7 @@ EXPORT int sem_trywait(sem_t *lock) {
         tried((uintptr_t)lock, answer != 0, HERE);
     if (is_seen && answer == 0)
         took(lock, MODE_TRY_WRITE, HERE);
-    return got(lock, answer, HERE);
+    return got_by(lock, true, answer, HERE);
 }
 
 EXPORT int sem_post(sem_t *lock) {

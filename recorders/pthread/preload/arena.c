@@ -243,10 +243,12 @@ void *take_spare(size_t bytes) {
     return from <= spare_room - bytes ? spare_from + from : NULL;
 }
 
-void *take_table(size_t bytes) {
-    void *spare = bytes < HUGE_PAGE ? NULL : take_spare(bytes);
-    return spare ? spare : take_private(bytes);
-}
+/* Of the first half no more than a fourth is for such. */
+void *take_sparse(size_t bytes) { return LOAD(&private_used_above) + bytes <= spare_room / 4 ? take_private(bytes) : take_spare(bytes); }
+
+static void *or_private(void *made, size_t bytes) { return made ? made : take_private(bytes); }
+void *take_table(size_t bytes) { return or_private(bytes < HUGE_PAGE ? NULL : take_spare(bytes), bytes); }
+void *take_sparse_table(size_t bytes) { return or_private(take_sparse(bytes), bytes); }
 
 /* ---- The beginning. */
 

@@ -299,7 +299,7 @@ static uint32_t object_in_file(uint32_t class, uint32_t file, uint64_t offset, u
 /* What is known of a lock that gets an object: it has got another name, it was met first, or it has just been initialised. */
 enum coming { RENAMED, MET, INITIALISED };
 
-static uint32_t new_object(uintptr_t lock, uint32_t class, enum coming coming) {
+static uint32_t new_object(uintptr_t lock, uint32_t class, enum coming coming, uint64_t time) {
     uint32_t file, object = 0;
     uint64_t offset;
     if (class && find_shared(lock, &file, &offset))
@@ -308,7 +308,10 @@ static uint32_t new_object(uintptr_t lock, uint32_t class, enum coming coming) {
         object = object_numbered(class, 0);
     if (!object)
         return 0;
-    name_in_history(lock, object, coming != RENAMED);
+    if (coming == RENAMED)
+        name_in_history(lock, object);
+    else
+        meet_in_history(lock, object, time);
     return add_lock(lock, object);
 }
 
@@ -348,8 +351,12 @@ bool is_initialised_since(uint32_t object) {
 static uint32_t object_now(uintptr_t lock, uint32_t object) {
     const struct raw_object *o = part_of(RAW_OBJECTS, object);
     uint32_t class = is_said(kind_of(o->class)) ? o->class : class_in_file(o->file, o->offset);
+    uint64_t time = time_before_looking();
+    uint32_t there = lock_object(lock);
+    if (there && there != object)
+        return there; /* another thread has found that, too */
     drop_lock(lock);
-    return new_object(lock, class, MET);
+    return new_object(lock, class, MET, time);
 }
 
 /* Whether the lock ends with this thread. */
@@ -371,6 +378,9 @@ uint32_t object_of_lock(uintptr_t lock, struct call call) {
         return UNLIKELY(is_initialised_since(object)) ? object_now(lock, object) : object;
     if (object)
         drop_lock(lock);
+    uint64_t time = time_before_looking();
+    if ((object = lock_object(lock)))
+        return object; /* another thread has met it meanwhile */
     struct memory memory;
     uint32_t class = class_of_lock(lock, &memory, call);
     look_once(class, lock, &memory, call);
@@ -378,7 +388,7 @@ uint32_t object_of_lock(uintptr_t lock, struct call call) {
         note_new_lock(class, lock, &memory, call);
     if (is_own(lock, class, call))
         note_own_lock(lock);
-    return new_object(lock, class, MET);
+    return new_object(lock, class, MET, time);
 }
 
 /* The smallest ordinal that no object of the class has had, or 0. */
@@ -392,20 +402,26 @@ static uint32_t taken_ordinal(struct kept_of_class *kept) {
     return 0;
 }
 
+/* The object of a lock that gets an ordinal, or that another thread has given one meanwhile. */
+static uint32_t numbered_object(uintptr_t lock, uint32_t object, struct kept_of_class *kept) {
+    uint32_t ordinal = taken_ordinal(kept), own = ordinal ? object_numbered(class_of(object), ordinal) : 0;
+    uint32_t there = own ? change_lock(lock, object, own) : object;
+    if (own && there == own)
+        name_in_history(lock, own);
+    else if (ordinal)
+        __atomic_fetch_and(&kept->given, ~(UINT32_C(1) << (ordinal - 1)), __ATOMIC_ACQ_REL);
+    return there;
+}
+
 /* An ordinal that a lock has had is no other's, so that orders of two locks aren't taken for those of one. */
 uint32_t apart(uintptr_t lock, uint32_t object) {
     if (LIKELY(ordinal_of(object)))
         return object;
     uint32_t there = lock_object(lock), class = class_of(object);
-    if (there != object)
-        return there && class_of(there) == class ? there : object; /* another thread was first */
-    struct kept_of_class *kept = kept_of(class);
-    uint32_t ordinal = kept ? taken_ordinal(kept) : 0;
-    uint32_t own = ordinal ? object_numbered(class, ordinal) : 0;
-    if (!own || put_lock(lock, own) != own)
-        return object;
-    name_in_history(lock, own, false);
-    return own;
+    struct kept_of_class *kept = there == object ? kept_of(class) : NULL;
+    if (kept)
+        there = numbered_object(lock, object, kept);
+    return there && class_of(there) == class ? there : object;
 }
 
 /* The same of a lock that isn't nested in another one: it may be held while a thread is waited for, and so may the thread that takes it. Most
@@ -458,7 +474,7 @@ void know_by_place(uintptr_t lock, struct call call) {
     if (place)
         class = known_class((struct raw_class){.kind = CLASS_INIT, .place = place});
     look_once(class, lock, &memory, call);
-    new_object(lock, class, INITIALISED);
+    new_object(lock, class, INITIALISED, time_before());
 }
 
 /* What the program says the lock is, which is more than what else is known of it. */
@@ -476,7 +492,7 @@ void know_by_text(uintptr_t lock, enum class_kind kind, uint32_t text, struct ca
     if (!class || class == before)
         return;
     drop_lock(lock);
-    new_object(lock, class, RENAMED);
+    new_object(lock, class, RENAMED, time_before());
 }
 
 /* Why the program ignores the lock, as the number of a text; 0 if it doesn't. */

@@ -231,7 +231,9 @@ static void note_sent(uint64_t *to, int number) {
 #define SIGEV_THREAD_ID 4
 #endif
 
-static void note_timer(const struct sigevent *event) {
+static void note_timer(timer_t timer, const struct sigevent *event) {
+    if (!event || event->sigev_notify != SIGEV_NONE)
+        know_timer(timer, !event ? SIGALRM : event->sigev_notify == SIGEV_THREAD ? 0 : event->sigev_signo);
     if (!event || event->sigev_notify == SIGEV_SIGNAL)
         note_sent(&senders[TIMERS].to_processes, event ? event->sigev_signo : SIGALRM);
     else if (event->sigev_notify == SIGEV_THREAD_ID)
@@ -241,7 +243,7 @@ static void note_timer(const struct sigevent *event) {
 EXPORT int timer_create(clockid_t clock, struct sigevent *event, timer_t *timer) {
     int answer = REAL(timer_create)(clock, event, timer);
     if (answer == 0)
-        note_timer(event);
+        note_timer(*timer, event);
     return answer;
 }
 

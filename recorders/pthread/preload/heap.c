@@ -2,8 +2,10 @@
    it is. The operators `new` of C++ call malloc, so their callers are among the callers of that.
 
    Pieces are kept by address, in lines of some slots, in levels of which each has more lines than the one before. Of a program that
-   has many, short ones are kept in words of short.h instead. */
+   has many, short ones are kept in words of short.h instead. What finds the callers is compiled here too: calls from file to file would add a
+   twentieth to what each malloc takes. */
 #include "held.h"
+#include "places.h"
 #include "short.h"
 
 #include <errno.h>

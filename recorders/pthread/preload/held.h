@@ -8,9 +8,6 @@
 #include "history.h"
 
 #include <string.h>
-#ifdef __x86_64__
-#include <x86intrin.h>
-#endif
 
 enum reader { BY_OBJECTS, BY_CLASSES, READERS };
 
@@ -52,16 +49,25 @@ struct entry {
     struct links links;
 } __attribute__((aligned(64)));
 
+/* Where the callers stood of a step whose place has several: as long as they stand there it is that place. */
+#define STANDING 8
+struct standing {
+    uintptr_t frame;
+    uint32_t count, at[STANDING]; /* count 0: the place has one */
+    uintptr_t callers[STANDING];
+};
+
 struct step {
     struct held held; /* of lock 0: there is none here */
     struct links links;
     uint64_t before; /* the hash of what was held before */
-    uintptr_t from;  /* where it was taken, and how */
+    uintptr_t from;  /* where it was taken, and how; of a place with several callers all bits are the other ones */
     const uint64_t *slot; /* of the table of locks */
     uint64_t word;        /* that is there as long as the lock is that object */
     uint64_t era;
     struct raw_record record;
     uint64_t missed; /* the key of the step that was looked for here last, and wasn't here */
+    struct standing standing;
 };
 
 #define FIRST_STEPS 16
@@ -84,6 +90,12 @@ struct turn {
 
 #define MOST_USED 8 /* (as many as fill a line of the processor's) */
 
+/* An acquisition whose callers are compared with those of the next one, or of a release; of frame 0 if there is none. */
+struct watched {
+    struct call call;
+    struct stack stack;
+};
+
 /* The function of the loader's that a thread is in, or was in when it came last. */
 struct loading {
     uintptr_t lock; /* the loader's; 0: in none */
@@ -105,6 +117,7 @@ struct thread {
     uintptr_t failed;      /* the lock of that try */
     struct loading loading;
     struct call pending; /* the call in which it waits for a lock, the outermost if a signal's handler waits too; frame 0: in none */
+    struct watched watched;
     struct raw_record *records; /* the chunk that the last record came to: it has those from one number on, and so many */
     uint64_t records_from, records_room;
     struct raw_record *chunks[RAW_CHUNKS];
@@ -231,8 +244,8 @@ QUICK uint64_t counted_time(void) { return __atomic_add_fetch(&counted, 1, __ATO
 QUICK uint64_t time_after(void) {
 #ifdef __x86_64__
     if (LIKELY(has_clock)) {
-        _mm_lfence(); /* else the counter might be read before the lock is taken */
-        return __rdtsc();
+        __builtin_ia32_lfence(); /* else the counter might be read before the lock is taken */
+        return __builtin_ia32_rdtsc();
     }
 #endif
     return counted_time();
@@ -242,9 +255,18 @@ QUICK uint64_t time_after(void) {
 QUICK uint64_t time_before(void) {
 #ifdef __x86_64__
     if (LIKELY(has_clock))
-        return __rdtsc();
+        return __builtin_ia32_rdtsc();
 #endif
     return counted_time();
+}
+
+/* What is read from memory after that isn't read before it. */
+QUICK uint64_t time_before_looking(void) {
+    uint64_t time = time_before();
+#ifdef __x86_64__
+    __builtin_ia32_lfence(); /* else memory might be read before the counter */
+#endif
+    return time;
 }
 
 QUICK bool has_history(void) { return self.history_at != NO_HISTORY; }
@@ -279,7 +301,7 @@ extern uint64_t is_memo_off; /* by LOCKDEP_MEMO=off, for tests: what is recorded
 
 /* Is done whenever something of this may have changed. */
 QUICK void note_unsettled(struct thread *t) {
-    t->is_unsettled = t->loading.lock | t->pending.frame | t->failed_under | t->is_turned | is_memo_off;
+    t->is_unsettled = t->loading.lock | t->pending.frame | t->watched.call.frame | t->failed_under | t->is_turned | is_memo_off;
 }
 
 /* ---- Steps. */
@@ -294,13 +316,22 @@ QUICK uint64_t step_key(uint64_t before, uintptr_t lock, uintptr_t from) {
 
 QUICK struct step *step_at(const struct thread *t, uint64_t key) { return &t->steps[key & t->steps_mask]; }
 
+/* Whether all of them stand on the stack of a call. Where its frame is the same there is memory. */
+QUICK bool stand_at(const struct standing *standing, uintptr_t frame) {
+    uint32_t i = 0;
+    while (i < standing->count && *(const uintptr_t *)(frame + standing->at[i]) == standing->callers[i])
+        i++;
+    return i == standing->count;
+}
+
+extern struct step no_step;
+
 /* Takes a lock as it was taken before. False if something isn't as it was: then nothing was done. There is room for the entry, since there was
    when the same locks were held before. */
-QUICK bool step_on(struct thread *t, uintptr_t lock, uintptr_t from) {
+QUICK bool take_step(struct thread *t, const struct step *s, uintptr_t lock, uintptr_t from) {
     struct raw_thread *raw = t->raw;
     uint64_t before = t->hash;
-    const struct step *s = step_at(t, step_key(before, lock, from));
-    if (t->is_unsettled || s->held.lock != lock || s->from != from || s->before != before || s->era != LOAD(era) || LOAD(s->slot) != s->word)
+    if (t->is_unsettled || s->held.lock != lock || s->before != before || s->era != LOAD(era) || LOAD(s->slot) != s->word)
         return false;
     uint64_t count = raw->count, nth = count - t->records_from;
     struct quick_step step;
@@ -323,6 +354,13 @@ QUICK bool step_on(struct thread *t, uintptr_t lock, uintptr_t from) {
     e->held.taken_at = s->held.taken_at;
     end_quick_step(&step, RAW_AGAIN, s->held.taken_at);
     return true;
+}
+
+bool step_on_by_callers(struct thread *t, const struct step *first, uintptr_t lock, uintptr_t from, struct call call); /* the same of a step with several */
+
+QUICK bool step_on(struct thread *t, uintptr_t lock, uintptr_t from, struct call call) {
+    const struct step *s = step_at(t, step_key(t->hash, lock, from));
+    return LIKELY(s->from == from) ? take_step(t, s, lock, from) : s->from == ~from && step_on_by_callers(t, s, lock, from, call);
 }
 
 /* Releases the newest lock if nothing new was done since it was taken: all records since then are taken back. */
@@ -351,7 +389,7 @@ QUICK bool acquired_again(uintptr_t lock, uint8_t mode, enum kind kind, struct c
     if (UNLIKELY(!t || self.inside_frame))
         return false;
     go_inside(call);
-    bool is_done = step_on(t, lock, step_from(call.caller, mode, kind));
+    bool is_done = step_on(t, lock, step_from(call.caller, mode, kind), call);
     go_outside();
     return is_done;
 }

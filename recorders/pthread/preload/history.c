@@ -139,10 +139,8 @@ static uint64_t *next_words(uint64_t time) {
 }
 
 /* A step of two words. */
-static uint64_t *put_step(uint64_t second, uint32_t place, bool is_after) {
-    if (!has_history())
-        return NULL;
-    uint64_t time = is_after ? time_after() : time_before(), *at = next_words(time);
+static uint64_t *put_step_of(uint64_t time, uint64_t second, uint32_t place) {
+    uint64_t *at = next_words(time);
     if (at && time >> RAW_EPOCH_BITS != self.history_epoch) {
         self.history_epoch = time >> RAW_EPOCH_BITS;
         put_words(at, raw_first_word(time, RAW_LONG, 0), raw_second_word(STEP_TIME, 0, time));
@@ -153,10 +151,14 @@ static uint64_t *put_step(uint64_t second, uint32_t place, bool is_after) {
     return at;
 }
 
+static uint64_t *put_step(uint64_t second, uint32_t place, bool is_after) {
+    return has_history() ? put_step_of(is_after ? time_after() : time_before(), second, place) : NULL;
+}
+
 /* What a lock is called isn't written again in a child that knows it since before. */
 uint32_t put_taking(uintptr_t lock, uint8_t mode, uint32_t place, uint32_t object) {
     if (UNLIKELY(is_child))
-        name_in_history(lock, object, false);
+        name_in_history(lock, object);
     const uint64_t *at = put_step(raw_second_word(STEP_TAKE, mode, lock), place, true);
     return at ? (uint32_t)(((uintptr_t)at - (uintptr_t)arena - arena->history_from) / sizeof *at) : 0;
 }
@@ -173,7 +175,13 @@ void forget_epoch(void) { self.history_epoch = NO_EPOCH; }
 
 /* ---- Steps that aren't those of locks. */
 
-void name_in_history(uintptr_t lock, uint32_t object, bool is_another) { put_step(raw_second_word(STEP_NAME, is_another, lock), object, false); }
+void name_in_history(uintptr_t lock, uint32_t object) { put_step(raw_second_word(STEP_NAME, false, lock), object, false); }
+
+/* Two threads that meet a lock at once both write this. It has the time of the look at which the lock wasn't known, which is before either takes the lock. */
+void meet_in_history(uintptr_t lock, uint32_t object, uint64_t time) {
+    if (has_history())
+        put_step_of(time, raw_second_word(STEP_NAME, true, lock), object);
+}
 
 static bool begin_step(struct call call) {
     if (self.is_ended || !arena || (!*era && !revived()) || !has_history())
@@ -184,11 +192,11 @@ static bool begin_step(struct call call) {
     return is_inside;
 }
 
+#define MESSAGE_FRAMES 4 /* enough to come out of a header, as that of std::condition_variable, in unoptimised code */
+
 /* Threads are started and joined at places that are known by all of their callers, as other steps are if they are rare. */
 static uint32_t place_of_message(enum raw_verb verb, struct call call) {
-    if (verb == STEP_START || verb == STEP_JOINED)
-        return place_of_call(call, RAW_FRAMES);
-    return self.thread ? cached_place(self.thread, call.caller) : place_of_caller(call.caller);
+    return place_of_call(call, verb == STEP_START || verb == STEP_JOINED ? RAW_FRAMES : MESSAGE_FRAMES);
 }
 
 __attribute__((noinline)) void put_message_by(enum raw_verb verb, uint8_t mode, uintptr_t about, bool is_after, struct call call) {

@@ -30,7 +30,8 @@ void forget_chunk(void);  /* a handler has interrupted the recorder */
 void forget_epoch(void);  /* the handler's run is over */
 uint32_t put_taking(uintptr_t lock, uint8_t mode, uint32_t place, uint32_t object); /* returns where that is, in words; 0: nowhere */
 void put_release(uintptr_t lock, uint32_t object);
-void name_in_history(uintptr_t lock, uint32_t object, bool is_another);
+void name_in_history(uintptr_t lock, uint32_t object);
+void meet_in_history(uintptr_t lock, uint32_t object, uint64_t time); /* another lock than was there before, if one was */
 void put_message(enum raw_verb verb, uintptr_t about, bool is_after, struct call call);
 void put_message_by(enum raw_verb verb, uint8_t mode, uintptr_t about, bool is_after, struct call call);
 void put_numbered(enum raw_verb verb, uintptr_t about, uint32_t number, struct call call);

@@ -36,6 +36,13 @@ static void note_unblocked(uint64_t signals) {
         __atomic_or_fetch(&arena->unblocked_by_runs, signals, __ATOMIC_RELAXED);
 }
 
+/* What it unblocks by itself is unblocked wherever it comes in. */
+static void note_opened(uint64_t signals) {
+    uint32_t source = signals && is_recording() ? run_source() : 0;
+    if (source)
+        __atomic_or_fetch(&((struct raw_source *)part_of(RAW_SOURCES, source))->unblocks, signals, __ATOMIC_RELAXED);
+}
+
 void set_mask(uint64_t mask, struct call call) {
     uint64_t before = self.mask;
     self.mask = mask & ~NEVER_BLOCKED;
@@ -74,6 +81,7 @@ __attribute__((noinline)) static int change_mask(masking *real, int how, const s
     int answer = real(how, set, to);
     uint64_t before = answer == 0 && is_asking ? word_of_set(to) : known;
     set_mask(answer == 0 && set ? mask_after(how, before, new) : before, call);
+    note_opened(how == SIG_UNBLOCK && answer == 0 ? new : 0);
     end_change(was_changing);
     return answer;
 }

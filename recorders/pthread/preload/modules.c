@@ -338,6 +338,7 @@ void forget_closed_modules(void) {
         return;
     forget_rules();
     forget_places_in_closed_modules();
+    forget_passing();
 }
 
 bool is_gone(uint32_t number) {

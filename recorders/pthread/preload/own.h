@@ -107,7 +107,9 @@ static inline void *part_of(enum raw_kind kind, uint32_t number) {
 struct raw_record *take_chunk(uint32_t chunk);
 void *take_private(size_t bytes); /* zeroed memory that is never given back, or NULL */
 void *take_spare(size_t bytes); /* the same, for a large table that can be done without */
-void *take_table(size_t bytes); /* the same, for one that can't */
+void *take_sparse(size_t bytes); /* the same, for one of which little may be used: in small pages, while there is much room for these */
+void *take_table(size_t bytes); /* as take_spare, for one that can't be done without */
+void *take_sparse_table(size_t bytes); /* as take_sparse, for such a one */
 void *map_common(const char *name, size_t bytes); /* a file of the folder, which all processes of the recording map; NULL: it can't be had */
 
 /* ---- tables.c */
@@ -150,8 +152,8 @@ static inline bool is_crowded(uint64_t overflows, uint32_t line_bits) { return o
 
 uint32_t lock_object(uintptr_t lock); /* the object of a lock, or 0 */
 const uint64_t *lock_slot(uintptr_t lock, uint32_t object, uint64_t *word); /* what says so, and with which word; NULL: it isn't */
-uint32_t put_lock(uintptr_t lock, uint32_t object); /* the object that it is then, or 0 if there is no room */
-uint32_t add_lock(uintptr_t lock, uint32_t object); /* the same of a lock that isn't there */
+uint32_t add_lock(uintptr_t lock, uint32_t object); /* of a lock that isn't there: the object that it is then, or 0 if there is no room */
+uint32_t change_lock(uintptr_t lock, uint32_t before, uint32_t object); /* the object that a lock is then which was another one */
 void drop_lock(uintptr_t lock);
 void end_lock(uintptr_t lock); /* the same, and what was said of it has ended too */
 void drop_locks_between(uintptr_t from, uintptr_t to);
@@ -180,7 +182,7 @@ bool own_part_word(intptr_t from_pointer, uint64_t *word);
 bool is_in_unwinder(uintptr_t address);
 bool put_path_of(uintptr_t address, char *path); /* of the module that has it, empty for the program itself; false: there is none */
 
-/* ---- stacks.c */
+/* ---- stacks.h */
 
 /* Where one of our functions was called. */
 struct call {
@@ -223,6 +225,8 @@ struct few {
 bool quick_callers(struct call call, uint64_t stack_bytes, struct few *few); /* whether they are known at once */
 bool has_returned(struct call call, struct call earlier, uintptr_t function); /* which was called there, further up on the stack */
 bool is_left(struct call call, struct call earlier); /* a jump has left that call of a function of ours */
+uint32_t returned_callers(const struct stack *earlier, uintptr_t frame, struct call call); /* so many of its functions have returned by now */
+uintptr_t function_around(uintptr_t caller); /* where the function begins that goes on there; the same address if that isn't known */
 bool has_word(uintptr_t address, uint32_t word);
 
 /* ---- libraries.c: with LOCKDEP_LIBRARIES, only the locks of C libraries that a program in Python or Java has loaded */
@@ -311,11 +315,12 @@ bool is_asked(int *known, const char *what); /* by LOCKDEP_ALSO */
 void begin_name(struct raw_thread *part);
 void forget_name(pthread_t thread);
 
-/* ---- places.c */
+/* ---- places.h */
 
 uint32_t place_of(const struct stack *stack);
 uint32_t place_of_caller(uintptr_t caller);
 uint32_t place_of_call(struct call call, uint32_t most);
+uint32_t place_of_some(struct call call, uint64_t salt, uint32_t (*telling)(const struct stack *stack));
 struct memo;
 struct asked { /* a call, what it makes, where its place is looked for, and how much of the stack there is */
     struct call call;
@@ -332,6 +337,7 @@ void ask_for_piece(struct asked *asked, struct call call, size_t size, uint64_t 
 uint32_t place_of_piece(const struct asked *asked);
 void note_lock_from(uint32_t place); /* that a piece from there has one, when it is known of a place first */
 void forget_places_in_closed_modules(void);
+void forget_passing(void); /* (callers.c) */
 
 /* ---- classes.c */
 
@@ -449,6 +455,8 @@ extern uint64_t handled;       /* the signals that have a handler, as a mask */
 extern uint32_t handlers_epoch; /* changes with it, and with which handlers these are; 0: none was ever installed */
 QUICK bool is_following(void) { return __atomic_load_n(&handlers_epoch, __ATOMIC_RELAXED) != 0; }
 QUICK uint64_t bit_of(int number) { return UINT64_C(1) << (number - 1); }
+extern uint64_t armed; /* the signals that timers will send, as a mask */
+void arm(uint64_t signals);
 void install(int number, uint32_t source); /* 0: none */
 uint32_t installed_source(int number);
 uint32_t source_of(int number, uintptr_t handler, struct call call);
@@ -500,6 +508,13 @@ enum { TIMERS, QUEUES, OWNED_FILES, SENDERS };
 extern struct sender senders[SENDERS];
 void note_owner(int number, bool is_thread); /* of a file, which sends the signal; 0: the one that files send otherwise */
 void leave_for(const ucontext_t *to, struct call call); /* the thread goes on there */
+
+/* ---- timers.c */
+
+void know_timer(timer_t timer, int number); /* which signal it sends; 0: none */
+bool has_fired(int number, const siginfo_t *info);
+extern bool are_timers_untold; /* whether one has fired in a handler that runs */
+void tell_timers(void);
 
 /* ---- library.c: what the C library locks inside, if that is wanted. */
 

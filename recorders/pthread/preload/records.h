@@ -2,7 +2,7 @@
 
    Each acquisition and release becomes a record in the file. A stretch of records that comes back to the locks that were held at its
    start, and takes nothing in a way in which this thread hadn't taken it before, is taken back: it adds no fact. Stacks are looked
-   at only for what is new. */
+   at only for what is new, and for what a function takes for its caller. */
 #ifndef LOCKDEP_RECORDS_H
 #define LOCKDEP_RECORDS_H
 #include "held.h"
@@ -98,7 +98,7 @@ static inline void look_at_others(struct thread *t, uintptr_t caller) {
 }
 
 static inline void settle(struct thread *t, struct call call) {
-    if (UNLIKELY(t->loading.lock | t->pending.frame))
+    if (UNLIKELY(t->loading.lock | t->pending.frame | t->watched.call.frame))
         end_what_is_left(t, call);
     look_at_others(t, call.caller);
     if (UNLIKELY(t->is_turned))
@@ -112,9 +112,13 @@ static inline void settle_to_take(struct thread *t, struct call call) {
         turn(t, call);
 }
 
-/* ---- acquisitions.c */
+/* ---- callers.c: how many callers tell where a lock is taken */
 
 uint32_t place_of_acquisition(struct thread *t, struct call call, bool is_new);
+void end_watch(struct thread *t, struct call call);
+
+/* ---- acquisitions.c */
+
 void push_held(struct thread *t, uintptr_t lock, uint32_t object, uint8_t mode, enum kind kind, struct call call, bool is_pending);
 bool add_entries(struct thread *t);
 uint32_t object_to_hold(struct thread *t, uintptr_t lock, uint8_t *mode, enum kind kind, struct call call);

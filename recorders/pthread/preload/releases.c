@@ -83,6 +83,8 @@ __attribute__((noinline)) void end_what_is_left(struct thread *t, struct call ca
         end_loading_if_returned(t, call);
     if (t->pending.frame)
         end_left_pending(t, call);
+    if (t->watched.call.frame)
+        end_watch(t, call);
 }
 
 /* Whether this thread was seen to take the lock, or ignores it. */

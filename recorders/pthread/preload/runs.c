@@ -155,11 +155,14 @@ static const struct sender *sender_of(const siginfo_t *info) {
 /* Who may have sent a signal to a thread may have sent it to the process otherwise, unless it is always done so. */
 __attribute__((noinline)) static uint32_t sent_otherwise(int number, const siginfo_t *info) {
     const struct sender *by = sender_of(info);
-    return by && LOAD(&by->to_threads) & ~LOAD(&by->to_processes) & bit_of(number) ? SENT_TO_THREAD : SENT_TO_PROCESS;
+    uint32_t to = by && LOAD(&by->to_threads) & ~LOAD(&by->to_processes) & bit_of(number) ? SENT_TO_THREAD : SENT_TO_PROCESS;
+    return to | (has_fired(number, info) ? SENT_BY_TIMER : SENT_BY_OTHERS);
 }
 
 QUICK uint32_t sent_to(int number, const siginfo_t *info) {
-    return info->si_code == SI_TKILL ? SENT_TO_THREAD : info->si_code == SI_USER ? SENT_TO_PROCESS : sent_otherwise(number, info);
+    return info->si_code == SI_TKILL ? SENT_TO_THREAD | SENT_BY_OTHERS
+           : info->si_code == SI_USER ? SENT_TO_PROCESS | SENT_BY_OTHERS
+                                      : sent_otherwise(number, info);
 }
 
 __attribute__((noinline)) static struct raw_run *found_run(struct runs *r, uint32_t source) {
@@ -356,6 +359,8 @@ QUICK void end_this_run(struct run *r, struct call call) {
         self.is_mask_known = false;
     if (UNLIKELY(r->was_waiting))
         self.waiting_level = 0;
+    if (UNLIKELY(LOAD(&are_timers_untold)) && r->has_returned)
+        tell_timers();
     if (UNLIKELY(is_changed || self.mask != r->known_mask))
         look_at_state_after_run(r->has_returned);
 }

@@ -88,7 +88,7 @@ static void write_state(struct thread *t, struct call call) {
     }
     bool is_new = t->depth && see(t, way_of(hash_of(t, t->depth) ^ OF_STATE));
     add_turn(t, t->raw->count, t->state, t->on);
-    put_record(t, raw_what(t->state, MODE_STATE), place_of_acquisition(t, call, is_new));
+    put_record(t, raw_what(t->state, MODE_STATE), is_new ? place_of_call(call, RAW_FRAMES) : cached_place(t, call.caller));
     if (is_new)
         t->fresh_end = t->raw->count;
 }

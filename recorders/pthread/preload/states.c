@@ -6,10 +6,21 @@
 #include <sys/syscall.h>
 #include <unistd.h>
 
-uint64_t handled;
+uint64_t handled, armed;
 uint32_t handlers_epoch;
 
 static uint32_t installed[RAW_SIGNALS]; /* of each signal the source; 0: no handler */
+
+/* All threads look at their states anew. */
+static void change_states(void) {
+    __atomic_fetch_add(&handlers_epoch, 1, __ATOMIC_ACQ_REL);
+    change_era();
+}
+
+void arm(uint64_t signals) {
+    if (__atomic_exchange_n(&armed, signals, __ATOMIC_ACQ_REL) != signals && LOAD(&handled))
+        change_states();
+}
 
 void install(int number, uint32_t source) {
     uint32_t *at = &installed[number - 1];
@@ -20,8 +31,7 @@ void install(int number, uint32_t source) {
         __atomic_fetch_or(&handled, bit_of(number), __ATOMIC_ACQ_REL);
     else
         __atomic_fetch_and(&handled, ~bit_of(number), __ATOMIC_ACQ_REL);
-    __atomic_fetch_add(&handlers_epoch, 1, __ATOMIC_ACQ_REL);
-    change_era();
+    change_states();
 }
 
 uint32_t installed_source(int number) { return LOAD(&installed[number - 1]); }
@@ -100,9 +110,11 @@ static struct names states;
 
 /* The sources that may interrupt. A handler without a source isn't followed. */
 static uint64_t fill(uint16_t *to, uint64_t on) {
-    uint64_t key = 0;
+    uint64_t key = 0, timed = LOAD(&armed);
     for (int number = 1; number <= RAW_SIGNALS; number++) {
         uint32_t source = on & bit_of(number) ? LOAD(&installed[number - 1]) : 0;
+        if (source && !(timed & bit_of(number)))
+            source |= RAW_UNARMED;
         to[number - 1] = (uint16_t)source;
         if (source)
             key = mixed(key) + source;

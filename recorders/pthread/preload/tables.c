@@ -2,7 +2,8 @@
    is made when a line of the one before is full. */
 #include "own.h"
 
-/* ---- Names: from a number to a number. Nothing is ever taken out, so a line's slots are filled one after the other. */
+/* ---- Names: from a number to a number. Nothing is ever taken out, so a line's slots are filled one after the other. A level is made for the
+   first few that the one before has no room for, so most of it is unused for long. */
 
 #define NAMES_WAYS 8
 struct names_line {
@@ -18,7 +19,7 @@ static struct names_line *names_level(struct names *names, int level, bool make)
     struct names_line *lines = LOAD(&names->levels[level]);
     if (lines || !make)
         return lines;
-    struct names_line *made = take_table(sizeof *made << names_bits[level]);
+    struct names_line *made = take_sparse_table(sizeof *made << names_bits[level]);
     if (made && SWAP(&names->levels[level], &lines, made))
         return made;
     return lines;
@@ -198,17 +199,13 @@ static bool has_marked_part(uintptr_t from, uintptr_t to) {
 
 /* ---- Putting locks in, and taking them out. */
 
-/* Two threads that put the same lock at once may each fill a slot: the first slot counts, and both find that. */
-uint32_t put_lock(uintptr_t lock, uint32_t object) {
-    uint64_t *slot = find_lock(lock);
-    mark_part(lock);
-    if (slot)
-        STORE(slot, word_with(lock, object));
-    else if (!fill_lock(lock, object))
-        return 0;
-    return lock_object(lock);
+/* Unless another thread was first. */
+uint32_t change_lock(uintptr_t lock, uint32_t before, uint32_t object) {
+    uint64_t *slot = find_lock(lock), there = word_with(lock, before);
+    return slot && SWAP(slot, &there, word_with(lock, object)) ? object : lock_object(lock);
 }
 
+/* Two threads that put the same lock at once may each fill a slot: the first slot counts, and both find that. */
 uint32_t add_lock(uintptr_t lock, uint32_t object) {
     mark_part(lock);
     return fill_lock(lock, object) ? lock_object(lock) : 0;

@@ -4,7 +4,7 @@
 #include <limits.h>
 #include <pthread.h>
 
-static struct step no_step;
+struct step no_step;
 EARLY_THREAD_LOCAL struct self self;
 static pthread_key_t thread_end;
 static bool has_thread_end;
@@ -87,6 +87,7 @@ static bool begin_trace(struct thread *t, uint32_t source) {
     t->is_started = source || !is_first_thread();
     t->loading.lock = 0;
     t->pending.frame = 0;
+    t->watched.call.frame = 0;
     t->unnoted = 0;
     t->era = LOAD(era);
     t->steps = &no_step;

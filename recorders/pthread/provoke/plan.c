@@ -15,9 +15,6 @@
 #define SLOTS 1024
 #define LOOKS 16
 
-/* The innermost callers that may be wrappers of a lock's function. */
-#define WRAPPERS 8
-
 static struct place {
     uintptr_t address;
     struct fits fits;
@@ -60,6 +57,7 @@ static int is_sought(struct dl_phdr_info *module, size_t size, void *with) {
 /* The plan's file, if there were places in modules that weren't loaded, and how many modules had been loaded when it was read. */
 static char plan_path[PATH_MAX];
 static bool is_incomplete;
+static long first_pauses[MOST_ORDERS];
 static unsigned long long loads;
 static pthread_mutex_t reading = PTHREAD_MUTEX_INITIALIZER;
 
@@ -79,18 +77,24 @@ static uintptr_t address_of(uintptr_t offset, const char *path) {
 }
 
 /* A line `hold OFFSET MODULE`, `want OFFSET MODULE` or `signal-NUMBER OFFSET MODULE`, with the handler's place, of the order that was named
-   last. */
+   last (`timer-NUMBER` of a signal that timers alone send), or `take-NTH OFFSET MODULE`, of the thread. */
 static void take_place(const char *line, unsigned order) {
     uintptr_t offset;
     char word[16], path[PATH_MAX];
     int signal;
+    unsigned nth;
     if (sscanf(line, "%15s %lx %4095[^\n]", word, &offset, path) != 3)
         return;
     uintptr_t address = address_of(offset, path);
+    if (sscanf(word, "take-%u", &nth) == 1) {
+        take_point(nth, address);
+        return;
+    }
     if (address == 0)
         return;
-    if (sscanf(word, "signal-%d", &signal) == 1) {
-        take_signal(order, signal, address);
+    bool is_by_timer = sscanf(word, "timer-%d", &signal) == 1;
+    if (is_by_timer || sscanf(word, "signal-%d", &signal) == 1) {
+        take_signal(order, signal, address, is_by_timer);
         return;
     }
     struct place *place = place_at(address, true);
@@ -102,12 +106,36 @@ static void take_place(const char *line, unsigned order) {
         place->fits.wants |= 1ull << order;
 }
 
+/* A line `order NUMBER PAUSE`: of this many milliseconds, if there is one, is the first pause at it. */
+static void take_order(const char *line, unsigned order) {
+    if (order < MOST_ORDERS)
+        sscanf(line, "order %*u %ld", &first_pauses[order]);
+}
+
+long first_pause_at(unsigned order) { return first_pauses[order]; }
+
+/* A line of the schedule that names no place: `thread NUMBER..`, `stop ORDER PAUSE` of the point before, or `after POINT POINT PAUSE`. */
+static bool take_word(const char *line) {
+    unsigned number, before;
+    long pause;
+    if (strncmp(line, "thread", strlen("thread")) == 0)
+        take_thread(line + strlen("thread"));
+    else if (sscanf(line, "stop %u %ld", &number, &pause) == 2)
+        take_stop(number, pause);
+    else if (sscanf(line, "after %u %u %ld", &number, &before, &pause) == 3)
+        take_after(number, before, pause);
+    else
+        return false;
+    return true;
+}
+
 /* Whether there is a plan with an order. */
 bool read_plan(const char *path) {
     FILE *file = fopen(path, "re");
     if (!file)
         return false;
     is_incomplete = false;
+    forget_points();
     dl_iterate_phdr(take_loads, &loads);
     if (path != plan_path)
         snprintf(plan_path, sizeof plan_path, "%s", path);
@@ -115,8 +143,8 @@ bool read_plan(const char *path) {
     unsigned orders = 0;
     while (fgets(line, sizeof line, file)) {
         if (strncmp(line, "order", 5) == 0)
-            orders++;
-        else if (orders > 0 && orders <= MOST_ORDERS)
+            take_order(line, orders++);
+        else if (!take_word(line) && orders > 0 && orders <= MOST_ORDERS)
             take_place(line, orders - 1);
     }
     fclose(file);
@@ -125,6 +153,7 @@ bool read_plan(const char *path) {
 
 /* ---- Stacks. */
 
+/* The frames of this library come first, and are none of the program's. */
 static _Unwind_Reason_Code take_frame(struct _Unwind_Context *context, void *with) {
     struct stack *stack = with;
     int is_before = 0;
@@ -132,21 +161,24 @@ static _Unwind_Reason_Code take_frame(struct _Unwind_Context *context, void *wit
     stack->is_in_handler |= is_before != 0;
     if (caller == 0 || stack->depth == MOST_CALLERS)
         return _URC_END_OF_STACK;
-    stack->callers[stack->depth++] = caller;
+    if (stack->depth || caller == stack->callers[0])
+        stack->callers[stack->depth++] = caller;
     return _URC_NO_REASON;
 }
 
-void look_at_stack(struct stack *stack) {
+void look_at_stack(struct stack *stack, uintptr_t caller) {
     stack->depth = 0;
+    stack->callers[0] = caller;
     stack->is_whole = true;
     stack->is_in_handler = false;
     _Unwind_Backtrace(take_frame, stack);
+    stack->depth += !stack->depth; /* nobody knows who called that */
 }
 
-/* The place of a call is its innermost caller, but for wrappers: so any of the first callers may be planned. */
+/* The place of a call is its innermost caller, but for wrappers: so any of the callers may be planned. */
 static struct fits fits_of(const struct stack *stack) {
     struct fits fits = {0, 0};
-    for (int i = 0; i < stack->depth && i < WRAPPERS; i++) {
+    for (int i = 0; i < stack->depth; i++) {
         const struct place *place = place_at(stack->callers[i], false);
         if (!place)
             continue;
@@ -154,6 +186,13 @@ static struct fits fits_of(const struct stack *stack) {
         fits.wants |= place->fits.wants;
     }
     return fits;
+}
+
+int first_planned(const struct stack *stack) {
+    int i = 0;
+    while (i < stack->depth && !place_at(stack->callers[i], false))
+        i++;
+    return i < stack->depth ? i : 0;
 }
 
 /* ---- Calls. */
@@ -194,11 +233,11 @@ void read_plan_again(void) {
    caller: it only says how often to look. */
 struct fits look_at_call(struct stack *stack, uintptr_t address) {
     struct caller *caller = &callers[slot_of(address) * (CALLERS / SLOTS) + (address >> 4) % (CALLERS / SLOTS)];
-    if (!is_worth_a_look(caller, address) && !place_at(address, false)) {
+    if (!is_worth_a_look(caller, address) && !place_at(address, false) && !is_at_point(address)) {
         *stack = (struct stack){.depth = 1, .callers = {address}};
         return (struct fits){0, 0};
     }
-    look_at_stack(stack);
+    look_at_stack(stack, address);
     struct fits fits = fits_of(stack);
     if (fits.holds || fits.wants)
         caller->is_fit = true;

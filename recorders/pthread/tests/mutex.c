@@ -1,4 +1,4 @@
-/* Every way to take a mutex. A timed one that gives up isn't taken, nor is a try that fails; version 1 leaves tries out. */
+/* Every way to take a mutex. A timed one that gives up isn't taken, nor is a try that fails. */
 #include "common.h"
 static pthread_mutex_t a = PTHREAD_MUTEX_INITIALIZER, b = PTHREAD_MUTEX_INITIALIZER, c = PTHREAD_MUTEX_INITIALIZER,
                        d = PTHREAD_MUTEX_INITIALIZER, e = PTHREAD_MUTEX_INITIALIZER;

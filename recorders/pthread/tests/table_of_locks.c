@@ -12,6 +12,7 @@ static uintptr_t addresses[LOCKS];
 static bool is_known[LOCKS];
 
 void *take_table(size_t bytes) { return calloc(1, bytes); }
+void *take_sparse_table(size_t bytes) { return take_table(bytes); }
 
 /* Nothing is said of these locks. */
 uint32_t is_anything_said;

@@ -4,6 +4,7 @@
 #include "../asleep.h"
 
 #include <pthread.h>
+#include <sched.h>
 #include <semaphore.h>
 #include <signal.h>
 #include <stdatomic.h>
@@ -139,6 +140,27 @@ static void semaphores(void) {
     turn = 1;
     sem_wait(&semaphore);
     turn = 2;
+    sem_wait(&semaphore);
+    pthread_join(thread, NULL);
+}
+
+static void *posts_twice(void *unused) {
+    take(&a, &b);
+    sem_post(&semaphore);
+    await(1);
+    take(&b, &a);
+    sem_post(&semaphore);
+    return unused;
+}
+
+/* A try takes the first post, and gets no message by it. */
+static void semaphore_tried(void) {
+    pthread_t thread;
+    sem_init(&semaphore, 0, 0);
+    pthread_create(&thread, NULL, posts_twice, NULL);
+    while (sem_trywait(&semaphore) != 0)
+        sched_yield();
+    turn = 1;
     sem_wait(&semaphore);
     pthread_join(thread, NULL);
 }
@@ -364,7 +386,7 @@ static void threads(void) { run(goes_on, goes_on); }
 static const struct {
     const char *name;
     void (*run)(void);
-} rows[] = {{"abba", abba}, {"gates", gates}, {"joins", joins}, {"conditions", conditions}, {"semaphores", semaphores}, {"barriers", barriers},
+} rows[] = {{"abba", abba}, {"gates", gates}, {"joins", joins}, {"conditions", conditions}, {"semaphores", semaphores}, {"semaphore_tried", semaphore_tried}, {"barriers", barriers},
             {"once", once}, {"readers", readers}, {"tries", tries}, {"timed", timed}, {"twice", twice}, {"forks", forks}, {"handlers", handlers},
             {"anew", anew}, {"hands_over", hands_over}, {"of_c", of_c}, {"killed", killed}, {"repeats", repeats}, {"endless", endless}, {"threads", threads}};
 

@@ -126,7 +126,7 @@ def recorded(program: str, words: list[str], folder: str) -> set[tuple[str, ...]
     os.makedirs(os.path.join(folder, "raw"))
     environment = dict(os.environ, LD_PRELOAD=os.path.join(RECORDER, "out", "preload.so"), LOCKDEP_RECORD=os.path.join(folder, "raw"))
     subprocess.run([program] + words, env=environment, check=True, timeout=600)
-    subprocess.run([os.path.join(RECORDER, "out", "finish"), folder, "2"], check=True)
+    subprocess.run([os.path.join(RECORDER, "out", "finish"), folder], check=True)
     return found_in(folder)
 
 

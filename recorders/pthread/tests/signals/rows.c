@@ -1,9 +1,13 @@
 /* What handlers do with locks: small programs, each a row that runs alone. A row is WRONG, with what has to be found and nothing else, or RIGHT. */
 #include "rows.h"
 #include <fcntl.h>
+#include <sched.h>
+#include <stdatomic.h>
+#include <stdbool.h>
 #include <sys/mman.h>
 #include <sys/select.h>
 #include <sys/syscall.h>
+#include <sys/time.h>
 #include <ucontext.h>
 
 static LOCK(table); static LOCK(other); static LOCK(safe); static LOCK(turn); static LOCK(stats); static LOCK(pool); static LOCK(timers);
@@ -70,6 +74,29 @@ static pthread_mutex_t again = PTHREAD_RECURSIVE_MUTEX_INITIALIZER_NP;
 TAKES(takes_again, again)
 WRONG(recursive, "double again SIGUSR1") {
     handle(SIGUSR1, takes_again, 0); with(&again); pthread_mutex_lock(&again); send(SIGUSR1); pthread_mutex_unlock(&again);
+}
+/* The lock is taken with the signal blocked, but in the handler, which unblocks it. */
+static void takes_unblocked(int number) { unblock(number); with(&table); }
+WRONG(unblocks_itself, "double table SIGUSR1") { handle(SIGUSR1, takes_unblocked, 0); with_blocked(SIGUSR1, &table); send(SIGUSR1); }
+/* The lock is taken with the signal blocked, but a handler that may come in there unblocks it. */
+static void unblocks_usr1(int number) { (void)number; unblock(SIGUSR1); }
+WRONG(unblocks_another, "double table SIGUSR1") {
+    handle(SIGUSR1, takes_table, 0); handle(SIGUSR2, unblocks_usr1, 0); block(SIGUSR1);
+    with(&table); send(SIGUSR2); send(SIGUSR1); unblock(SIGUSR1);
+}
+/* That handler is blocked, too, where the lock is taken; or it only puts back the mask that it has met. */
+RIGHT(unblocks_elsewhere) {
+    handle(SIGUSR1, takes_table, 0); handle(SIGUSR2, unblocks_usr1, 0); block(SIGUSR1); block(SIGUSR2);
+    with(&table); send(SIGUSR2); send(SIGUSR1); unblock(SIGUSR2); unblock(SIGUSR1);
+}
+static void puts_back(int number) {
+    sigset_t before, one = nothing();
+    (void)number; sigaddset(&one, SIGUSR1);
+    pthread_sigmask(SIG_BLOCK, &one, &before); pthread_sigmask(SIG_SETMASK, &before, NULL);
+}
+RIGHT(puts_mask_back) {
+    handle(SIGUSR1, takes_table, 0); handle(SIGUSR2, puts_back, 0); send(SIGUSR2);
+    block(SIGUSR1); with(&table); send(SIGUSR2); unblock(SIGUSR1); send(SIGUSR1);
 }
 /* Only the handler takes the lock, but it has SA_NODEFER: the next signal comes in while it holds it. */
 WRONG(nodefer, "double table SIGUSR1") { handle(SIGUSR1, takes_table, SA_NODEFER); send(SIGUSR1); }
@@ -391,6 +418,62 @@ static void *gets_signal(void *unused) { raise(SIGUSR1); with(&other); return un
 WRONG(joined_with_lock, "inversion table other SIGUSR1; inversion table thread:gets_signal SIGUSR1") {
     handle(SIGUSR1, takes_and_counts, 0); pthread_create(&thread, NULL, gets_signal, NULL); block(SIGUSR1); awaits_run(NULL);
     pthread_mutex_lock(&table); pthread_join(thread, NULL); pthread_mutex_unlock(&table);
+}
+
+/* ---- Timers: what they alone send comes in only where one is armed. */
+
+static atomic_bool is_held, is_timed;
+static void await_runs(int count) { while (runs < count) sched_yield(); }
+static void set_timer(long first, long again) {
+    struct itimerval set = {{again / 1000000, again % 1000000}, {first / 1000000, first % 1000000}};
+    handle(SIGALRM, takes_and_counts, 0);
+    setitimer(ITIMER_REAL, &set, NULL);
+}
+#define SOON 1000 /* microseconds */
+#define LATER 1000000000 /* which never comes */
+/* It is armed once, and has come by the time that the lock is taken. */
+RIGHT(timer_over) { set_timer(SOON, 0); await_runs(1); with(&table); }
+RIGHT(alarm_not_yet) { handle(SIGALRM, takes_and_counts, 0); with(&table); alarm(1); await_runs(1); }
+RIGHT(timer_disarmed) { set_timer(SOON, SOON); await_runs(2); set_timer(0, 0); with(&table); }
+/* (No timer comes while the lock is taken, where its handler would wait for ever: the one that is armed is set once more.) */
+WRONG(timer_armed, "double table SIGALRM") { set_timer(LATER, 0); with(&table); set_timer(SOON, 0); await_runs(1); }
+WRONG(timer_repeats, "double table SIGALRM") { set_timer(SOON, LATER); await_runs(1); with(&table); set_timer(0, 0); }
+/* Once it is sent by another call: so it may be again. */
+WRONG(timer_and_kill, "double table SIGALRM") { set_timer(SOON, 0); await_runs(1); send(SIGALRM); with(&table); }
+/* A timer of the program's own, and another one of the same signal that stays armed. */
+static void own_timer(bool is_another) {
+    timer_t own[2];
+    struct itimerspec soon = {.it_value = {0, 1000 * SOON}}, late = {.it_value = {1000, 0}};
+    handle(SIGALRM, takes_and_counts, 0);
+    for (int i = 0; i <= is_another; i++) {
+        timer_create(CLOCK_MONOTONIC, NULL, &own[i]);
+        timer_settime(own[i], 0, i ? &late : &soon, NULL);
+    }
+    await_runs(1);
+    with(&table);
+}
+RIGHT(own_timer) { own_timer(false); }
+WRONG(two_timers, "double table SIGALRM") { own_timer(true); }
+/* It is armed while another thread has the lock, which had it before. */
+static void *holds_table(void *unused) {
+    sigset_t set = only(SIGALRM);
+    pthread_sigmask(SIG_BLOCK, &set, NULL);
+    pthread_mutex_lock(&table);
+    is_held = true;
+    while (!is_timed) sched_yield();
+    unblock(SIGALRM);
+    pthread_mutex_unlock(&table);
+    return unused;
+}
+WRONG(timer_of_other, "double table SIGALRM") {
+    pthread_t holder;
+    pthread_create(&holder, NULL, holds_table, NULL);
+    while (!is_held) sched_yield();
+    set_timer(LATER, 0);
+    is_timed = true;
+    pthread_join(holder, NULL);
+    set_timer(SOON, 0);
+    await_runs(1);
 }
 
 /* ---- Children. */

@@ -37,7 +37,7 @@ def record(out: str, folder: str, seed: int) -> str:
 def look(out: str, folder: str, seed: int) -> str:
     """A jump out of the recorder is counted, with the call that it has left."""
     left_out = LEFT_OUT[1:] if has_jumps(seed) else LEFT_OUT
-    done = subprocess.run([os.path.join(out, "finish"), folder, "2"], capture_output=True, text=True)
+    done = subprocess.run([os.path.join(out, "finish"), folder], capture_output=True, text=True)
     if done.returncode:
         return f"finish: {done.returncode} {done.stderr.strip()}"
     with open(os.path.join(folder, "SUMMARY"), encoding="utf-8") as file:

@@ -26,14 +26,14 @@ bool has_word(uintptr_t address, uint32_t word) {
     return !is_other;
 }
 
+#define WORD sizeof(uintptr_t)
+
 #ifdef __x86_64__
 
 /* ---- Following. */
 
 #define LARGEST_FRAME (UINT64_C(16) << 20)
 #define LARGEST_STACK (UINT64_C(1) << 30)
-
-#define WORD sizeof(uintptr_t)
 
 struct frame {
     uintptr_t caller, sp, bp; /* the function that goes on at `caller`, and its registers there */
@@ -251,6 +251,34 @@ bool is_left(struct call call, struct call earlier) {
     return word_at(earlier.frame + 8) != earlier.caller || meets(call, earlier, (uintptr_t)is_left) == MET_NOT;
 }
 
+/* Up to the frame that begins behind a word of the stack, or behind what follows. */
+static bool follow_to(struct frame *f, uintptr_t at) {
+    while (f->sp - 8 < at)
+        if (!to_caller(f))
+            return false;
+    return true;
+}
+
+/* Where the return addresses stand as they did, from the outermost on, the functions that they return to go on. The innermost of these has called
+   another function since. 0 if none of them stands: it may be another stack. */
+uint32_t returned_callers(const struct stack *earlier, uintptr_t frame, struct call call) {
+    struct frame f = first_frame(call);
+    uint32_t returned = 0;
+    for (uint32_t i = 0; i < earlier->count; i++) {
+        uintptr_t at = frame + earlier->at[i];
+        if (!follow_to(&f, at))
+            return 0;
+        if (f.sp - 8 != at || f.caller != earlier->callers[i])
+            returned = i;
+    }
+    return returned + 1 < earlier->count ? returned : 0;
+}
+
+uintptr_t function_around(uintptr_t caller) {
+    uintptr_t function = function_of(caller);
+    return function ? function : caller;
+}
+
 #else
 
 #include <execinfo.h>
@@ -311,5 +339,13 @@ bool has_returned(struct call call, struct call earlier, uintptr_t function) {
 bool is_left(struct call call, struct call earlier) {
     return call.frame >= earlier.frame && call.frame < (uintptr_t)__builtin_thread_pointer();
 }
+
+/* To follow the stack again takes too long here. */
+uint32_t returned_callers(const struct stack *earlier, uintptr_t frame, struct call call) {
+    (void)earlier, (void)frame, (void)call;
+    return 0;
+}
+
+uintptr_t function_around(uintptr_t caller) { return caller; }
 
 #endif

@@ -1,5 +1,5 @@
 /* Places: the callers of a call. Each has a number, by which classes and pieces of memory say where they come from. */
-#include "own.h"
+#include "stacks.h"
 
 static struct names places;
 
@@ -50,7 +50,6 @@ uint32_t place_of_caller(uintptr_t caller) {
 #define MORE_MEMOS 4096
 #define MOST_MEMOS 65536
 #define MEMO_WAYS 4
-#define WORD 8
 
 #define PIECE_FRAMES 12 /* of a piece of memory */
 #define FEW_FRAMES 6
@@ -180,10 +179,10 @@ static inline struct memo *memos_of(uint64_t site, uintptr_t frame) {
     return LOAD(&memos) + ((site ^ frame * weights[1]) >> 40 & mask);
 }
 
-static struct asked ask(struct call call) {
+static struct asked ask(struct call call, uint64_t salt) {
     uint64_t stack_bytes = stack_above(call);
-    struct memo *memos_of_call = memos_of(site_key(call, outer_caller(call, stack_bytes), 0), call.frame);
-    return (struct asked){.call = call, .stack_bytes = stack_bytes, .memos = memos_of_call};
+    struct memo *memos_of_call = memos_of(site_key(call, outer_caller(call, stack_bytes), salt), call.frame);
+    return (struct asked){.call = call, .stack_bytes = stack_bytes, .memos = memos_of_call, .salt = salt};
 }
 
 /* ... in one of the memos behind the first one. */
@@ -198,18 +197,37 @@ static uint32_t remembered_before(const struct asked *asked, uint32_t most) {
     return 0;
 }
 
+static uint32_t remembered(const struct asked *asked, uint32_t most) {
+    uint32_t place = place_in(asked->memos, asked, most);
+    return LIKELY(place) ? place : remembered_before(asked, most);
+}
+
+static uint32_t remembered_from_now(const struct asked *asked, const struct stack *stack) {
+    uint32_t place = place_of(stack);
+    remember(asked, stack, place);
+    return place;
+}
+
 uint32_t place_of_call(struct call call, uint32_t most) {
-    struct asked asked = ask(call);
-    uint32_t place = place_in(asked.memos, &asked, most);
-    if (!place)
-        place = remembered_before(&asked, most);
+    struct asked asked = ask(call, most);
+    uint32_t place = remembered(&asked, most);
     if (LIKELY(place))
         return place;
     struct stack stack;
     take_stack(&stack, call, most);
-    place = place_of(&stack);
-    remember(&asked, &stack, place);
-    return place;
+    return remembered_from_now(&asked, &stack);
+}
+
+/* By so many callers as `telling` says, always in the same way for one salt; 0 if that says none. */
+uint32_t place_of_some(struct call call, uint64_t salt, uint32_t (*telling)(const struct stack *stack)) {
+    struct asked asked = ask(call, salt);
+    uint32_t place = remembered(&asked, RAW_FRAMES);
+    if (LIKELY(place))
+        return place;
+    struct stack stack;
+    take_stack(&stack, call, RAW_FRAMES);
+    stack.count = telling(&stack);
+    return stack.count ? remembered_from_now(&asked, &stack) : 0;
 }
 
 /* ---- Places that were met, each in a word: its key, and the place in the lowest bits. */

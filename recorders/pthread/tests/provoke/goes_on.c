@@ -1,0 +1,131 @@
+/* Programs whose threads wait for one another, until something ends that, each by its name. In the recorded run they don't. */
+#include "rows.h"
+
+#include "../asleep.h"
+#include <setjmp.h>
+#include <signal.h>
+#include <stdatomic.h>
+#include <sys/wait.h>
+
+#define LOOK 50000 /* microseconds */
+#define EARLY 12   /* looks at held locks after which a thread releases what another one holds: `provoke` has looked as often by then */
+#define LATE 1200  /* which are never over: the run is judged long before */
+
+static atomic_int over; /* threads */
+
+IN_TURN(takes_ab, 0, 2, take(&a, &b); over++)
+IN_TURN(takes_ba, 1, 2, take(&b, &a); over++)
+
+/* Whether both locks are held, as they are while the two threads wait for one another. */
+static bool are_held(void) { return a.__data.__owner != 0 && b.__data.__owner != 0; }
+
+/* Whether the parent, which is `provoke`, has gone to sleep since this was asked last, as it does after each look at this process. */
+static bool has_looked(void) {
+    static unsigned long before;
+    unsigned long times = 0;
+    char parent[16];
+    snprintf(parent, sizeof parent, "%d", (int)getppid());
+    asleep_till_woken(getppid(), parent, &times);
+    bool is_later = times > before;
+    before = times;
+    return is_later;
+}
+
+/* A thread that looks on until both are over; when it has seen both locks held so many times, it does something about it. (Looks from the start on would
+   be over too soon on a slow machine, and what comes later then stands still for good.) */
+static void look_on(int looks, void (*end)(void)) {
+    for (int seen = 0; seen < looks && over < 2; seen += has_looked() && are_held())
+        usleep(LOOK);
+    if (over < 2)
+        end();
+}
+
+static void release(void) { pthread_mutex_unlock(&a); }
+
+static void *releases_early(void *with) {
+    look_on(EARLY, release);
+    return with;
+}
+
+static void *releases_late(void *with) {
+    look_on(LATE, release);
+    return with;
+}
+
+static void early(void) { RUN(takes_ab, takes_ba, releases_early); }
+static void late(void) { RUN(takes_ab, takes_ba, releases_late); }
+
+/* ---- A thread that ends the program. */
+
+static void give_up(void) { _exit(7); }
+
+static void *watches(void *with) {
+    look_on(EARLY, give_up);
+    return with;
+}
+
+static void watched(void) { RUN(takes_ab, takes_ba, watches); }
+
+/* ---- A handler that jumps out of the wait. */
+
+#define SECONDS 600 /* which never pass */
+
+static sigjmp_buf out;
+
+static void jump(int number) {
+    (void)number;
+    siglongjmp(out, 1);
+}
+
+static void *jumps_out(void *with) {
+    await_turn(1, 2);
+    if (sigsetjmp(out, 1) == 0)
+        take(&b, &a);
+    else
+        pthread_mutex_unlock(&b);
+    end_turn(1);
+    return with;
+}
+
+static void alarmed(void) {
+    signal(SIGALRM, jump);
+    alarm(SECONDS);
+    RUN(takes_ab, jumps_out);
+    alarm(0);
+}
+
+/* ---- Another process, which sends the signal. */
+
+static void sent(void) {
+    pid_t other = fork();
+    if (other == 0) {
+        sleep(SECONDS);
+        kill(getppid(), SIGUSR1);
+        _exit(0);
+    }
+    signal(SIGUSR1, jump);
+    RUN(takes_ab, jumps_out);
+    kill(other, SIGKILL);
+    waitpid(other, NULL, 0);
+}
+
+/* ---- A timer that runs a function. */
+
+static void release_by_timer(union sigval with) {
+    (void)with;
+    release();
+}
+
+static void timed(void) {
+    timer_t timer;
+    struct sigevent runs = {.sigev_notify = SIGEV_THREAD, .sigev_notify_function = release_by_timer};
+    timer_create(CLOCK_MONOTONIC, &runs, &timer);
+    timer_settime(timer, 0, &(struct itimerspec){.it_value.tv_sec = SECONDS}, NULL);
+    RUN(takes_ab, takes_ba);
+    timer_delete(timer);
+}
+
+int main(int count, char **words) {
+    static const struct row rows[] = {{"early", early}, {"late", late}, {"watched", watched}, {"alarmed", alarmed}, {"sent", sent}, {"timed", timed}};
+    return run_row(rows, sizeof rows / sizeof *rows, count > 1 ? words[1] : "");
+}
