@@ -16,11 +16,11 @@ static int put(void *file, const char *bytes, size_t size) {
     return fwrite(bytes, 1, size, (FILE *)file) == size ? 0 : -1;
 }
 
-/* Opens a file in the folder that `lockdep run` names, or in `traces`. */
+/* Opens a file in the folder that `lockdep run` names, or in `lockdep-traces`. */
 static FILE *open_file(const char *name, const char *end) {
     const char *folder = getenv("LOCKDEP_TRACES");
     char path[4096];
-    snprintf(path, sizeof path, "%s/%s%s", folder ? folder : "traces", name, end);
+    snprintf(path, sizeof path, "%s/%s%s", folder ? folder : "lockdep-traces", name, end);
     FILE *file = fopen(path, "w");
     if (!file) {
         perror(path);

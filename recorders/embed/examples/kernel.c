@@ -268,7 +268,7 @@ static void start_timer(void) {
 int main(int argc, char **argv) {
     const char *folder = getenv("LOCKDEP_TRACES");
     if (!folder)
-        folder = argc > 1 ? argv[1] : "traces";
+        folder = argc > 1 ? argv[1] : "lockdep-traces";
     make_task(&tasks[0], folder, watch);
     make_task(&tasks[1], folder, adjust);
     start_timer();

@@ -168,7 +168,7 @@ int main(int argc, char **argv) {
     pthread_t threads[THREADS];
     folder = getenv("LOCKDEP_TRACES");
     if (!folder)
-        folder = argc > 1 ? argv[1] : "traces";
+        folder = argc > 1 ? argv[1] : "lockdep-traces";
     for (unsigned type = 0; type < NAMES; type++)
         make(&statics[type], type);
     begin_task(&tasks[THREADS]);
