@@ -11,7 +11,7 @@ Usage: python3 -m lockdep_record [-o FOLDER] [--] [OPTIONS OF PYTHON] SCRIPT [WO
        python3 -m lockdep_record --finish FOLDER
        python3 -m lockdep_record --summary FOLDER
 
-  -o FOLDER         writes the traces to FOLDER instead of `traces`. Those of an earlier recording are replaced; a file that no
+  -o FOLDER         writes the traces to FOLDER instead of `lockdep-traces`. Those of an earlier recording are replaced; a file that no
                     recording made is never touched
   --command COMMAND runs a command that isn't a Python script: every Python program that it starts is recorded
   --finish FOLDER   writes the traces of a recording whose recorder was killed

@@ -142,15 +142,17 @@ def begin_locks():
 
 def begin(folder, is_fork_server):
     """Records this process from here on. Of the server that forks processes for `multiprocessing` only these are recorded."""
-    from . import green, handlers, threads
+    from . import green, handlers, messages, threads
     ends.begin_process(folder, is_fork_server)
     begin_locks()
     threads.replace_threads()
+    messages.begin()
     if os.environ.get("LOCKDEP_SIGNALS") != "off":
         handlers.begin()
     replace_exit()
     replace_chroot()
     sys.meta_path.insert(0, Finder)
     Finder.awaited.update(green.AWAITED)
+    Finder.awaited.update({"concurrent.futures.thread": messages.replace_work, "concurrent.futures._base": messages.replace_futures})
     starts.begin()
     atexit.register(ends.end_process)

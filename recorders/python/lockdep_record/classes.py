@@ -124,12 +124,14 @@ def name_of(frame, chain):
 
 
 class Lock:
-    """What is known about a lock: its class, the lock that it is recorded as, and who holds it."""
+    """What is known about a lock: its class, the lock that it is recorded as, and who holds it; and its number in the order of steps, with the process and
+    the key that were told of it last."""
 
-    __slots__ = ("made", "key", "is_apart", "entry", "spare")
+    __slots__ = ("made", "key", "is_apart", "entry", "spare", "number", "told")
 
     def __init__(self, made):
         self.made, self.key, self.is_apart, self.entry, self.spare = made, made.rest.number, False, None, None
+        self.number, self.told = 0, None
         if made.early < MOST_EARLY:
             made.early += 1
             tell_apart(self)
@@ -148,12 +150,13 @@ def tell_apart(lock):
 
 
 class Way:
-    """The locks that a task holds, as a node of the tree of all that it held. `common` is that of the process."""
+    """The locks that a task holds, as a node of the tree of all that it held. `common` is that of the process. For the order of steps it has the lock that
+    was taken last in this way, at which site, and how that and its release are written (`steps`)."""
 
-    __slots__ = ("after", "common", "is_taken")
+    __slots__ = ("after", "common", "is_taken", "lock", "site", "taking", "release")
 
     def __init__(self, common):
-        self.after, self.common, self.is_taken = {}, common, False
+        self.after, self.common, self.is_taken, self.lock = {}, common, False, None
 
     def to(self, code):
         """The way with one more lock."""

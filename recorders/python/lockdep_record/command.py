@@ -8,9 +8,10 @@ from lockdep_record.folder import RUN, Folder, Refusal, run_settings, say_refusa
 
 PASSED_ON = (signal.SIGHUP, signal.SIGINT, signal.SIGQUIT, signal.SIGTERM, signal.SIGUSR1, signal.SIGUSR2)
 FROM_KERNEL = 128  # the code of a signal that a terminal sends
-# How often it is seen whether a signal came to the whole group, and the seconds from the first look to the second; then
-# twice as many each time. Who sends it to this process and then to the group may have to wait for a processor in between.
-WITNESS_LOOKS, WITNESS_PAUSE = 5, 0.001
+# How often it is seen at least whether a signal came to the whole group, and the seconds from the first look to the second; then
+# twice as many each time. Who sends it to this process and then to the group may have to wait for a processor in between: it is
+# seen until the sender has slept, or has had so many ticks of one.
+WITNESS_LOOKS, WITNESS_PAUSE, SENDER_TICKS = 5, 0.001, 4
 PATIENCE = 2  # how long after Ctrl-C, in seconds, a command may still run before that is said
 
 
@@ -50,6 +51,22 @@ def start(command, environment):
 mask = signal.pthread_sigmask(signal.SIG_BLOCK, ())
 
 
+def ticks_if_awake(process):
+    """The ticks of a processor that a process has had, if it runs or waits for one, or for the system; none if it sleeps or is gone."""
+    try:
+        with open("/proc/%d/stat" % process, "rb") as file:
+            words = file.read().rpartition(b")")[2].split()
+    except OSError:
+        return None
+    return int(words[11]) + int(words[12]) if words[0] in (b"R", b"D") else None
+
+
+def may_send_more(sender, ticks):
+    """Whether a sender that had had so many ticks may not have come to its next signal yet."""
+    now = None if ticks is None else ticks_if_awake(sender)
+    return now is not None and now - ticks < SENDER_TICKS
+
+
 class Witness:
     """A process of this one's group that does nothing. The signals that are passed on are blocked in it, so it keeps them: one that it has
     got too was for the whole group, as `timeout` and `kill 0` send them, and the command has that already. It has no file open but a
@@ -80,17 +97,20 @@ class Witness:
         except (OSError, KeyError, ValueError):
             return False
 
-    def saw(self, number):
+    def saw(self, number, sender):
         """Whether a signal that has just come was for the whole group. Then the next one like it is seen by a new witness, and what came
         to this process twice, as by `timeout`, counts once."""
-        for look in range(WITNESS_LOOKS):
+        ticks, look, may_come = ticks_if_awake(sender), 0, True
+        while may_come:
+            may_come = look < WITNESS_LOOKS or may_send_more(sender, ticks)  # (before the look, so that there is one after it)
             if self.has(number):
                 sleep(WITNESS_PAUSE)
                 signal.sigtimedwait([number], 0)
                 self.end_it()
                 self.begin()
                 return True
-            sleep(WITNESS_PAUSE * 2 ** look)
+            sleep(WITNESS_PAUSE * 2 ** (look if look < WITNESS_LOOKS else 0))
+            look += 1
         return False
 
     def end_it(self):
@@ -133,7 +153,7 @@ def wait_for(child, witness, still_runs):
             interrupted = float("inf")
         elif came.si_signo != signal.SIGCHLD:
             is_of_group = os.getpgid(child) == os.getpgrp()
-            is_told = witness.saw(came.si_signo) or came.si_code == FROM_KERNEL
+            is_told = witness.saw(came.si_signo, came.si_pid) or came.si_code == FROM_KERNEL
             if not (is_told and is_of_group):
                 os.kill(child, came.si_signo)
             if came.si_signo == signal.SIGINT and interrupted is None:
@@ -201,7 +221,7 @@ def value(words, option, what="a folder"):
 
 def do(words, recorder):
     """Reads the command line of a recorder, and does what it says. The recorder itself handles its own options."""
-    path, then, asked_of_run = "traces", None, run_settings.take_over()
+    path, then, asked_of_run = "lockdep-traces", None, run_settings.take_over()
     while words:
         word = words.pop(0)
         if word == "-o":

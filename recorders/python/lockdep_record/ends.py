@@ -1,5 +1,5 @@
 """How tasks and processes end, and how processes begin."""
-from . import forks, log, tasks
+from . import forks, log, steps, tasks
 from .log import TRY, Process, count, count_lines, here, put, write
 from .recording import settle, write_parts
 from .tasks import Held, Task, begin_main_thread, begin_running, running_one, runs
@@ -57,6 +57,7 @@ def end_process():
             if task.records:
                 write(task)
     put(broken_off_lines() + run_lines())
+    steps.end()
     log.process.is_off = True
 
 
@@ -86,6 +87,8 @@ def begin_in_child():
         task.way = task.way.to(code)
         task.way.is_taken = True
         task.fresh = len(task.records)
+        if task.is_ordered:
+            steps.note_taking(task, entry.lock, task.way, None, code & ~7 | TRY, (None, None))
 
 
 def held_in_child(old):
@@ -107,6 +110,7 @@ def run_lines():
 def begin_process(folder, is_left_out=False):
     """From here on this process is recorded, or what is forked by it."""
     log.process = Process(folder, is_left_out)
+    steps.begin()
     over = Task()
     over.is_over = over.is_busy = True
     log.process.tasks.discard(over)
@@ -114,4 +118,4 @@ def begin_process(folder, is_left_out=False):
     tasks.LEFT_OUT.task = over
 
 
-forks.begin_in_child, tasks.end = begin_in_child, end
+forks.begin_in_child, tasks.end, tasks.enter, log.flush_steps = begin_in_child, end, steps.enter, steps.flush

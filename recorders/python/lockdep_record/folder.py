@@ -56,8 +56,16 @@ class Folder(driver.Folder):
             fault = driver.fault(error, self.path)
             raise Refusal("%s; when there is some, `lockdep record --finish %s` makes the traces" % (fault, typed(self.path))
                           if error.errno in (errno.ENOSPC, errno.EDQUOT) else fault)
-        remove(self.raw)
+        self.keep_history()
         driver.remove_tree(os.path.join(self.path, driver.STAGE))
+
+    def keep_history(self):
+        """Packs the recording, if it has an order of steps, which is made into histories when it is asked for; or drops it."""
+        if any(name.endswith("-" + driver.HISTORY) for name in os.listdir(self.raw)):
+            from lockdep.finish import traces
+            traces.pack(self)
+        else:
+            remove(self.raw)
 
     def make_traces(self):
         from lockdep.finish import log_traces

@@ -153,7 +153,9 @@ def task_for(source):
     """A task for a run: one of an earlier run that is over."""
     task = source.free.pop() if source.free else None
     if task is None or task.is_over:
-        return Task(source)
+        task = Task(source)
+        tasks.enter(task)
+        return task
     if task.state != tasks.state:
         recording.enter_state_of(task)
     return task

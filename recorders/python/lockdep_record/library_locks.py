@@ -7,6 +7,7 @@ from . import log, places, recording, tasks
 from .classes import Lock as Record, made_at
 from .locks import is_own_use, keep, lock, maker, put_in_place, reentrant_at, wait_for
 from .log import TIMED, TRY, WRITE
+from .messages import Posts
 from .places import getframe
 from .recording import failed_try, gave, took
 from .waits import begin_pending, break_off, grant, not_granted
@@ -123,11 +124,16 @@ def replace_semaphores():
         make(self, value)
         if value == 1:
             self._lockdep_record = Record(made_at(getframe(0).f_back, "Semaphore"))
+        else:
+            self._lockdep_posts = Posts(value)
 
     def acquire(self, blocking=True, timeout=None):
         record = vars(self).get("_lockdep_record")
         if record is None:
-            return real_acquire(self, blocking, timeout)
+            is_taken = real_acquire(self, blocking, timeout)
+            if is_taken and "_lockdep_posts" in vars(self):
+                self._lockdep_posts.got(getframe(0).f_back)
+            return is_taken
 
         def acquire_really(blocking, timeout=-1):
             return real_acquire(self, blocking, timeout if timeout != -1 else None)
@@ -146,6 +152,8 @@ def replace_semaphores():
             record = vars(self).get("_lockdep_record")
             if record is not None and n == 1:
                 gave(record, Taken if self._value == 0 else None)
+            elif "_lockdep_posts" in vars(self):
+                self._lockdep_posts.post(n, getframe(0).f_back)
             real_release(self, *([n] if n != 1 else []))  # (Python 3.8 has no number there)
         return release
 

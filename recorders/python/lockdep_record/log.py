@@ -23,6 +23,10 @@ def tell_life(life):
     """`threads` puts its own in the place of this."""
 
 
+def flush_steps():
+    """`steps` puts its own in the place of this."""
+
+
 def declare_source(source):
     """Writes a handler, if the file doesn't have it."""
     if source not in process.told:
@@ -54,7 +58,7 @@ class Process:
         self.folder, self.tasks, self.common = folder, set(), Way(None)
         self.counts = dict.fromkeys(("reentered", "beyond-held", "full-traces", "unseen-releases", "repeats", "retried-tries",
                                      "interrupted", "alike", "operations", "multiprocessing", "gevent", "eventlet", "unfollowed-handlers",
-                                     "unguarded", "changed-root"), 0)
+                                     "unguarded", "changed-root", "history-ends"), 0)
         self.note_unguarded()
         self.told, self.written, self.like, self.task_numbers = {}, {}, {}, counting(1)
         self.places, self.place_numbers, self.pid = {}, counting(1), os.getpid()
@@ -94,10 +98,10 @@ has_global_lock = getattr(sys, "_is_gil_enabled", None)  # (since Python 3.13; t
 process = None
 
 
-def put_bytes(of, raw):
-    """Adds to the file of a process. Errors never reach the program."""
+def put_bytes(of, raw, further=""):
+    """Adds to the file of a process, or to a further one. Errors never reach the program."""
     try:
-        file = open_file(of.path, os.O_WRONLY | os.O_APPEND | os.O_CREAT | os.O_CLOEXEC, 0o666)
+        file = open_file(of.path + further, os.O_WRONLY | os.O_APPEND | os.O_CREAT | os.O_CLOEXEC, 0o666)
         try:
             while raw:
                 raw = raw[write_bytes(file, raw):]
@@ -166,6 +170,7 @@ def write(task):
         task.number = next(process.task_numbers)
         name = thread_name(task)
         put("N %d\t%s\n" % (task.number, name) if name else "")
+        put("J %d %d\n" % (task.number, task.member or 0) if task.member != 0 else "")
         tell_state(task)
     if task.life is not None:
         tell_life(task.life)
@@ -183,6 +188,7 @@ def write(task):
         lines.append("W %d\n" % task.number)
     count(task)
     put("".join(lines) + count_lines())
+    flush_steps()
 
 
 def count_lines():

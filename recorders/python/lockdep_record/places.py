@@ -73,6 +73,42 @@ def chain_of(frame):
     return tuple([(each.f_code, each.f_lasti) for each in ends_of(frame)])
 
 
+# A function that returns with a lock held passes it on to its caller, so the callers up to the first one that goes on tell where the lock is taken.
+passing = {}  # the codes of such functions, by their numbers
+TELLING = 3  # callers of the program
+
+
+def chain_of_taking(frame, is_new=False):
+    """The frames of a place where a lock is taken: with callers if the program itself takes it in a new way, as nobody knows yet who goes on with it."""
+    ends = ends_of(frame)
+    outer = ends[0] if len(ends) == 1 else None
+    while outer is not None and len(ends) < TELLING and (is_new or id(outer.f_code) in passing):
+        outer = caller_in_program(outer)
+        ends += () if outer is None else (outer,)
+    return tuple([(each.f_code, each.f_lasti) for each in ends])
+
+
+def caller_in_program(frame):
+    """The caller of a frame without what only does what it is asked for; None if that is none of the program's."""
+    frame = frame.f_back
+    while frame is not None and frame.f_code.co_filename in known_passed:
+        frame = frame.f_back
+    name = frame.f_code.co_filename if frame is not None else ""
+    return frame if name and (kinds[name] if name in kinds else kind_of(name)) == PLAIN else None
+
+
+def note_returned(chain, frame):
+    """The first functions of a chain have returned that aren't among the callers of a frame."""
+    running = set()
+    while frame is not None:
+        running.add(id(frame.f_code))
+        frame = frame.f_back
+    for code, _ in chain:
+        if id(code) in running:
+            break
+        passing[id(code)] = code
+
+
 # Where the library takes a lock by `with`, its frame runs on until that lock is given back, and so do those further out. Until then the
 # record has the frame in the place of a chain, which is hardly ever needed.
 known_withs = {}  # whether a lock is taken by `with`, by the file, the first line of the function and the instruction

@@ -18,22 +18,24 @@ from itertools import count as counting_from
 from time import monotonic, sleep
 
 from . import beginning, ends, library_locks, locks, places, provoke_file
-from .log import TIMED, WRITE
+from .log import STARTED, TIMED, WRITE
 from .places import getframe
 from .provoke_file import (ASIDE, CALLERS_OF_HELD, HELD, MOST_CALLERS, MOST_HELD, MOST_PAUSES, NOBODY, THREAD, count, free_place,
-                           number_of, pauses_before, put_thread)
-from .provoke_plan import innermost, place_of, read_plan, stack_of
+                           number_of, pauses_before, put_thread, put_timer)
+from .provoke_plan import first_pauses, innermost, place_of, read_plan, stack_of
+from .threads import class_of
 
 MOST_CHANGES = 0xffffffff
 RUNS, STANDS, WAITS = 0, 1, 2
+BY_HOLDER, BY_ANYBODY, BY_OTHERS = 1, 2, 3  # who may release a lock
+IN_JOIN = 3  # what a thread waits in
 
-# The same limits as in provoke/threads.c: milliseconds of a pause, and of all of a process; and the pauses of one length at an order.
-DEFAULT_PAUSE = 300
+# The same limits as in provoke/threads.c: milliseconds of all pauses of a process, and the pauses of one length at an order.
 MOST_PAUSED = 10000
 PAUSES_OF_ONE_LENGTH = 10
 LOOK = 0.001  # seconds from one look to the next, of a thread that stands
 
-first_pause = DEFAULT_PAUSE
+first_pause = 0  # milliseconds
 paused = 0  # milliseconds of all pauses
 threads = set()  # those of this process that took a lock
 here = threading.local()
@@ -44,18 +46,23 @@ PLAIN_NAME = re.compile("[!#-+./-?A-~-]{1,53}")  # of a class, which is neither 
 # ---- Locks and threads.
 
 class Lock:
-    """What is known about a lock: its class, the orders whose first lock it was, wherever it was taken, who holds it, and its number in the
-    file."""
+    """What is known about a lock: its class, the orders whose first lock it was, wherever it was taken, who holds it, its number in the file, and who
+    may release it."""
 
-    __slots__ = ("made", "orders", "entry", "number")
+    __slots__ = ("made", "orders", "entry", "number", "releasing")
 
     def __init__(self, made):
-        self.made, self.orders, self.entry, self.number = made, 0, None, next(lock_numbers)
+        self.made, self.orders, self.entry, self.number, self.releasing = made, 0, None, next(lock_numbers), BY_OTHERS
 
     def numbered(self):
         """A number of its own, before the place of its class's name if a recording has that just so."""
         name = self.made.name
         return self.number << BITS_OF_CLASS | (number_of(name) if PLAIN_NAME.fullmatch(name) else 0)
+
+    @property
+    def is_life(self):
+        """Whether it is a thread, which it holds itself."""
+        return self.made.kind is STARTED
 
     def __reduce__(self):
         """In a copy of what has it this is None."""
@@ -71,7 +78,7 @@ class Held:
         self.lock, self.thread, self.stack = lock, thread, stack
 
     def packed(self):
-        return HELD.pack(self.lock.numbered(), 0, len(self.stack), self.lock.orders, *numbers_of(self.stack, CALLERS_OF_HELD))
+        return HELD.pack(self.lock.numbered(), 0, self.lock.releasing, 0, len(self.stack), self.lock.orders, *numbers_of(self.stack, CALLERS_OF_HELD))
 
 
 def numbers_of(stack, most):
@@ -101,7 +108,8 @@ class Thread:
     def packed(self):
         held, awaited = self.held[:MOST_HELD], self.awaited.numbered()
         return THREAD.pack(self.process, self.number, self.changes, self.state, self.order, 0, awaited, len(self.stack), len(held),
-                           *numbers_of(self.stack, MOST_CALLERS), self.goes, self.name) + b"".join([each.packed() for each in held])
+                           *numbers_of(self.stack, MOST_CALLERS), self.goes, self.name, 0, IN_JOIN if self.awaited.is_life else 0, 0) + b"".join(
+                               [each.packed() for each in held])
 
     def begin(self, state, lock, stack):
         """It stands or waits from here on."""
@@ -154,6 +162,8 @@ def running():
         thread = Thread()
         if thread.place is not None:
             here.guard, here.thread = Guard(thread), thread
+            life = life_of(threading._active.get(get_ident()))
+            thread.held += [Held(life, thread, list(life.made.chain))] if life is not None else []
         return here.thread
 
 
@@ -202,6 +212,7 @@ def begin_pending(lock, is_long=True, mode=WRITE):
     """The running thread waits for a lock. One that gives up at a time is in no cycle."""
     thread = running()
     if thread is not None and mode != TIMED:
+        put_timer(*_signal.getitimer(_signal.ITIMER_REAL))
         thread.begin(WAITS, lock, stack_of(getframe(1), MOST_CALLERS))
 
 
@@ -272,13 +283,14 @@ def hold(thread, lock, wants, frame):
     """Holds a thread back that asks for the second lock of these orders, if it holds the first one, or perhaps does."""
     under = orders_in(functools.reduce(operator.or_, [held.lock.orders for held in thread.held], 0) & wants)
     count(orders_in(wants), under)
-    if not thread.held or is_in_handler(frame):
+    if not under and all(held.lock.is_life for held in thread.held) or is_in_handler(frame):
         return
     order = (under or orders_in(wants))[0]
     thread.order, thread.goes = order + 1 if under else 0, False
     before = pauses_before(order) if paused < MOST_PAUSED else MOST_PAUSES
     if before < MOST_PAUSES:
-        stand(thread, lock, stack_of(frame, MOST_CALLERS), first_pause >> before // PAUSES_OF_ONE_LENGTH)
+        first = first_pauses.get(order) if before == 0 else None
+        stand(thread, lock, stack_of(frame, MOST_CALLERS), first or first_pause >> before // PAUSES_OF_ONE_LENGTH)
 
 
 def stand(thread, lock, stack, length):
@@ -324,14 +336,15 @@ def record_of(made):
     return made._lockdep_record if isinstance(made, locks.Replaced) else vars(made).get("_lockdep_record")
 
 
-def hold_back(real, endless):
-    """Has the threads be held back that take a lock of this class. `endless` is the timeout of a wait without one."""
+def hold_back(real, endless, releasing):
+    """Has the threads be held back that take a lock of this class. `endless` is the timeout of a wait without one, `releasing` who may release it."""
     real_acquire = real.acquire
 
     def acquire(self, blocking=True, timeout=endless):
         if blocking and timeout == endless:
             lock = record_of(self)
             if lock is not None:
+                lock.releasing = releasing
                 consider(lock, getframe(0))
         return real_acquire(self, blocking, timeout)
 
@@ -352,6 +365,36 @@ def hold_back_after_wait(real):
         restore(self, state)
 
     locks.put_in_place(real, _acquire_restore)
+
+
+def life_of(thread):
+    """The lock that a thread is to who joins it; None if it wasn't seen to start."""
+    return vars(thread).get("_lockdep_life") if thread is not None else None
+
+
+def watch_ends():
+    """The same of those that wait for the ends of threads."""
+    real = threading.Thread
+    real_start, real_join = real.start, real.join
+
+    def start(self):
+        vars(self)["_lockdep_life"] = life = Lock(class_of(self, getframe(0).f_back))
+        life.releasing, life.orders = BY_HOLDER, place_of(life.made.chain[0]).holds if life.made.chain else 0
+        real_start(self)
+
+    def join(self, timeout=None):
+        life = life_of(self) if timeout is None and self.is_alive() else None
+        if life is None:
+            real_join(self, timeout)
+            return
+        consider(life, getframe(0))
+        begin_pending(life)
+        try:
+            real_join(self)
+        finally:
+            not_granted(life)
+
+    locks.put_in_place(real, start, join)
 
 
 def count_asyncio(module):
@@ -375,17 +418,19 @@ def count_asyncio_of(real):
 def begin(plan, path):
     """Holds threads of this process back from here on."""
     global first_pause
-    provoke_file.table, first_pause = path, int(os.environ.get("LOCKDEP_PROVOKE_PAUSE") or DEFAULT_PAUSE)
+    provoke_file.table, first_pause = path, int(os.environ["LOCKDEP_PROVOKE_PAUSE"])
     if not read_plan(plan):
         return
     vars(locks).update(REPLACING, PATIENCE=0)
     vars(library_locks).update(REPLACING)
     ends.end_process = end_process
     beginning.begin_locks()
-    for real, endless in ((locks.lock, -1), (locks.RLock, -1), (threading._PyRLock, -1), (threading.Semaphore, None)):
-        hold_back(real, endless)
+    for real, endless, releasing in ((locks.lock, -1, BY_OTHERS), (locks.RLock, -1, BY_HOLDER), (threading._PyRLock, -1, BY_HOLDER),
+                                     (threading.Semaphore, None, BY_ANYBODY)):
+        hold_back(real, endless, releasing)
     for real in (locks.RLock, threading._PyRLock):
         hold_back_after_wait(real)
+    watch_ends()
     beginning.Finder.awaited = {"asyncio.locks": count_asyncio}
     sys.meta_path.insert(0, beginning.Finder)
     os.register_at_fork(after_in_child=begin_in_child)

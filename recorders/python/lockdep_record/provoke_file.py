@@ -4,7 +4,9 @@ caller, a thread's name, and the class of a lock behind a number of that, is the
 import fcntl
 import os
 import struct
+from _signal import SIGALRM
 from _thread import allocate_lock
+from time import monotonic
 
 from .log import close_file, open_file, write_bytes
 
@@ -15,10 +17,13 @@ MOST_HELD = 48
 MOST_CALLERS = 16
 CALLERS_OF_HELD = 8
 HEAD, COUNTS = struct.Struct("=8sII"), struct.Struct("=%dI" % (4 * MOST_ORDERS))
-THREAD, HELD = struct.Struct("=iiIIIIQII%dQII" % MOST_CALLERS), struct.Struct("=QIIQ%dQ" % CALLERS_OF_HELD)
+THREAD, HELD = struct.Struct("=iiIIIIQII%dQIIQII" % MOST_CALLERS), struct.Struct("=QBBHIQ%dQ" % CALLERS_OF_HELD)
 FIELDS, NOBODY = THREAD.unpack(bytes(THREAD.size)), b"\0\0\0\0"
 SIZE_OF_THREAD = THREAD.size + MOST_HELD * HELD.size
 FIRST_THREAD = HEAD.size + COUNTS.size
+TIMER = struct.Struct("=iiQQQ")
+FIRST_TIMER = FIRST_THREAD + MOST_THREADS * SIZE_OF_THREAD
+NANOSECONDS = 1000000000  # of a second
 MOST_COUNTED = 0xffffffff
 REACHED, UNDER, PAUSES, ASIDE = 0, 1, 2, 3  # what is counted of an order
 MOST_PAUSES = 40  # of an order
@@ -26,6 +31,7 @@ MOST_PAUSES = 40  # of an order
 pread, pwrite = os.pread, os.pwrite  # (a package may put its own into `os`)
 table = ""  # the path of the file
 pauses = {}  # how often threads stood at an order, wherever that was
+is_armed = False  # whether the file says that the timer of this process is
 
 
 def accessed(path, flags, access):
@@ -121,6 +127,15 @@ def number_of(text):
 def put_thread(place, raw):
     """Writes what the file has of a thread."""
     accessed(table, os.O_WRONLY, lambda file: pwrite(file, raw, place))
+
+
+def put_timer(left, again):
+    """Writes that the timer of this process sends its signal in so many seconds, and how often again, if it does."""
+    global is_armed
+    if left or is_armed:
+        is_armed = left > 0
+        at = int((monotonic() + left) * NANOSECONDS) if left else 0
+        accessed(table, os.O_WRONLY, lambda file: pwrite(file, TIMER.pack(os.getpid(), SIGALRM, at, int(again * NANOSECONDS), 1), FIRST_TIMER))
 
 
 def begin_in_child():

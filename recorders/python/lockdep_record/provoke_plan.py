@@ -6,6 +6,7 @@ from .provoke_file import MOST_ORDERS
 NO_OFFSET = "-"  # of a place in words
 planned = {}  # by their texts
 known_places = {}  # by what `places` knows a place by
+first_pauses = {}  # the milliseconds of the first pause at an order, if that is another one
 
 
 class Place:
@@ -18,12 +19,13 @@ class Place:
 
 
 def read_plan(path):
-    """Reads the lines `order NUMBER`, `hold - PLACE` and `want - PLACE` of a plan."""
+    """Reads the lines `order NUMBER`, which may have the first pause behind it, `hold - PLACE` and `want - PLACE` of a plan."""
     orders = 0
     with open(path, encoding="utf-8", errors="surrogateescape") as file:
         for line in file.read().split("\n"):
             word, offset, text = (line.split(" ", 2) + ["", ""])[:3]
             if word == "order":
+                first_pauses[orders] = int(text or 0)
                 orders += 1
             elif offset == NO_OFFSET and 0 < orders <= MOST_ORDERS:
                 place = planned.setdefault(text, Place(text))

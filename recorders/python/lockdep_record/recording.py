@@ -8,7 +8,9 @@ What no task of the process had done before is written at once, so that nothing 
 from . import log, tasks
 from .classes import Way, tell_apart
 from .log import RELEASE, declare, here, place_of, put, write
-from .places import Frame, chain_noting_with, chain_of, getframe, known_passed, known_plain, known_withs, settled
+from .places import (
+    Frame, chain_noting_with, chain_of, chain_of_taking, getframe, known_passed, known_plain, known_withs, note_returned, passing, settled)
+from .steps import AT_ONCE, add, flush, note_release, note_taking, steps, tell_key
 from .tasks import Held, Task, begin_again, begin_thread, current_of_all
 
 MOST_HELD = 48
@@ -42,22 +44,37 @@ def took(lock, mode):
         record = task.base + len(records)
         if len(held) >= MOST_HELD or record >= MOST_EVENTS:
             leave_out(lock, "full-traces" if len(held) < MOST_HELD else "beyond-held")
+            if task.is_ordered:
+                note_taking(task, lock, Way(None), None, 8 * lock.key + mode, (chain_of(getframe(1).f_back), None))
         else:
             code, before, frame = 8 * lock.key + mode, task.way, getframe(1).f_back
             if frame is not None and frame.f_code.co_filename in known_passed:
                 frame = frame.f_back
             of_frame = frame.f_code if frame is not None else None
             if of_frame is not None and of_frame.co_filename in known_plain:
-                records.append((code, of_frame, frame.f_lasti))
+                made = site = (code, of_frame, frame.f_lasti)
+                if passing and id(of_frame) in passing:
+                    made = site = (code, chain_of_taking(frame), None)
             elif (of_frame is not None and known_withs.get((of_frame.co_filename, of_frame.co_firstlineno, frame.f_lasti))
                   and tasks.find_greenlet is None):
-                records.append((code, frame, frame.f_lasti))
+                made, site, outer = (code, frame, frame.f_lasti), None, frame.f_back
+                if outer is not None and outer.f_code.co_filename in known_plain:
+                    site = (code, of_frame, frame.f_lasti, outer.f_code, outer.f_lasti)
             else:
-                records.append((code, chain_noting_with(frame), None))
+                made = site = (code, chain_noting_with(frame), None)
+            records.append(made)
             entry = lock.entry = (lock.spare if lock.entry is None else None) or spare_of(lock)
             entry.task, entry.code, entry.record, entry.start, entry.before = task, code, record, record, before
             held.append(entry)
             way = task.way = before.after.get(code) or before.to(code)
+            if not way.is_taken and type(made[1]) is not Frame:
+                entry.callers = chain_of_taking(frame, True)
+                made = records[-1] = (code, entry.callers, None)
+            if task.is_ordered:
+                if way.lock is lock and way.site == site and site is not None:
+                    add(way.taking)
+                else:
+                    note_taking(task, lock, way, site, code, made[1:])
             if not way.is_taken:
                 see(task, way)
     except BaseException:
@@ -116,6 +133,10 @@ def gave(lock, real):
         task = here.task if are_threads else tasks.current()
     except AttributeError:
         task = begin_thread()
+    if task.is_ordered:
+        add(task.way.release) if task.way.lock is lock else note_release(task, lock)
+        if len(steps) >= AT_ONCE:
+            flush()
     if task.is_busy:
         return gave_oddly(lock, real, task)
     task.is_busy = True
@@ -165,6 +186,7 @@ def took_aside(lock, mode, task, frame):
     aside = task.aside
     if aside is None or aside.is_over:
         aside = task.aside = Task()
+        aside.member, aside.is_ordered = task.member, task.is_ordered
     if aside.is_busy:
         log.process.counts["reentered"] += 1
         return
@@ -180,6 +202,8 @@ def took_aside(lock, mode, task, frame):
         else:
             take_over(aside, lock, 8 * lock.key + mode, (chain_of(frame), None))
             lock.entry = aside.held[-1]
+            if task.is_ordered:
+                note_taking(task, lock, aside.way, None, 8 * lock.key + mode, (chain_of(frame), None))
     except BaseException:
         abandon(aside)
         raise
@@ -276,6 +300,9 @@ def give_back(task, entry):
         start, records = entry.start, task.records
         if start < task.fresh:
             settle_record(task, entry)
+            if entry.callers is not None:
+                note_returned(entry.callers, getframe(2))
+                entry.callers = None
             records.append((entry.code & ~7 | RELEASE, None, None))
         else:
             at = start - task.base
@@ -326,6 +353,8 @@ def tell_held_apart(task, entry):
     if not lock.is_apart:
         tell_apart(lock)
     entry.code = 8 * lock.key + (entry.code & 7)
+    if task.is_ordered:
+        tell_key(task, lock)
     at = entry.record - task.base
     if at >= 0:
         task.records[at] = (entry.code,) + task.records[at][1:]
@@ -362,7 +391,7 @@ def abandon(task):
     """The examination of a task was interrupted, for example by an exception from a signal handler: its trace ends here."""
     if task.is_over:
         return
-    task.is_over = task.is_busy = True
+    task.is_over, task.is_busy, task.is_ordered = True, True, False
     log.process.tasks.discard(task)
     log.process.counts["interrupted"] += 1
     task.pending = None

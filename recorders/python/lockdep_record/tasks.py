@@ -24,25 +24,26 @@ def end(task):
 
 class Held:
     """A held lock: by which task, in which mode, its record; and the records and the way before its place was taken. `place` is that of the
-    record, once it is in the file."""
+    record, once it is in the file, and `callers` those of one that is new, until it is known who goes on with the lock."""
 
-    __slots__ = ("lock", "task", "code", "record", "start", "before", "is_told", "place")
+    __slots__ = ("lock", "task", "code", "record", "start", "before", "is_told", "place", "callers")
 
     def __init__(self, lock):
         self.lock = lock
         self.is_told = False  # for a lock that is waited for: whether the file has it
-        self.place = None, None
+        self.place, self.callers = (None, None), None
 
 
 class Task:
     """A thread or a task of asyncio. `base` is how many of its records are in the file already, and `fresh` how many there were
-    when it last did something new. Where signals' handlers may come in is its `state`, and it has a trace for each (`parts`)."""
+    when it last did something new. Where signals' handlers may come in is its `state`, and it has a trace for each (`parts`). In the order of steps it is
+    `member`: nothing if that has none of it, 0 if that is over. `is_ordered` says whether a step is noted now."""
 
     __slots__ = ("number", "held", "way", "records", "base", "fresh", "dropped", "pending", "is_busy", "is_over", "operations",
-                 "repeats", "failed", "aside", "lent", "life", "source", "is_main", "state", "parts", "first")
+                 "repeats", "failed", "aside", "lent", "life", "source", "is_main", "state", "parts", "first", "member", "is_ordered")
 
     def __init__(self, source=None):
-        self.aside, self.lent, self.life = None, 0, None
+        self.aside, self.lent, self.life, self.member, self.is_ordered = None, 0, None, None, False
         self.source, self.is_main, self.parts, self.first = source, get_ident() == main_thread, None, 0
         self.state = state if self.is_main else NOWHERE
         self.number, self.held, self.way, self.records = 0, [], Way(log.process.common), []
@@ -137,9 +138,14 @@ def caller_of(running):
     return None
 
 
+def enter(task):
+    """`steps` puts its own in the place of this."""
+
+
 def begin_thread():
     """A thread takes its first lock."""
     here.task = Task()
+    enter(here.task)
     here.guard = Guard(here.task)
     begin_task(here.task)
     return here.task
@@ -149,6 +155,7 @@ def begin_again(task):
     """The running thread or task, or the run of a signal's handler, gets another trace."""
     if task.source is not None and getattr(here, "task", None) is task and runs:
         here.task = runs[-1].task = Task(task.source)
+        enter(here.task)
     else:
         begin_running(running_one())
 

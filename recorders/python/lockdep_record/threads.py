@@ -5,7 +5,7 @@ import threading
 from _thread import get_ident
 from types import FunctionType, MethodType
 
-from . import classes, log, places, recording, tasks
+from . import classes, log, places, recording, steps, tasks
 from .classes import Lock as Record, Made, class_in, key_of, name_of, name_of_module
 from .locks import PATIENCE, put_in_place
 from .log import STARTED, TIMED, WRITE
@@ -18,13 +18,13 @@ WHOLE = -1  # in the place of an instruction: a function itself
 
 
 class Life:
-    """What is known of a thread: the class of what it runs, its task once it has taken a lock, the lock that it is, once
+    """What is known of a thread: the class of what it runs, the message that it is started by, its task once it has taken a lock, the lock that it is, once
     that can matter, and who has waited for its end last."""
 
-    __slots__ = ("made", "process", "task", "record", "is_told", "joiner")
+    __slots__ = ("made", "message", "process", "task", "record", "is_told", "joiner")
 
-    def __init__(self, made):
-        self.made, self.process, self.task, self.record, self.is_told, self.joiner = made, log.process, None, None, False, None
+    def __init__(self, made, message):
+        self.message, self.made, self.process, self.task, self.record, self.is_told, self.joiner = message, made, log.process, None, None, False, None
 
 
 unused = {}  # of classes: the lock of a thread that took none after all
@@ -73,7 +73,7 @@ def name_of_thread(function, frame, place):
 def note_start(thread, frame):
     """A thread is about to be started."""
     if not log.process.is_off:
-        vars(thread)["_lockdep_life"] = Life(class_of(thread, frame))
+        vars(thread)["_lockdep_life"] = Life(class_of(thread, frame), steps.give(frame))
 
 
 def life_of(thread):
@@ -87,6 +87,8 @@ def begin_task(task):
     thread = threading._active.get(get_ident())
     life = life_of(thread) if thread is not None else None
     if life is not None:
+        if life.task is None and task.is_ordered:
+            steps.note(task, steps.BEGINS, life.message)
         life.task, task.life = task, life
 
 
@@ -162,6 +164,8 @@ def replace_threads():
         else:
             join_recorded(self, life, timeout)
         if life is not None and not self.is_alive():
+            if life.joiner is not joiner or joiner is None:
+                steps.note_join(life.task, WRITE if timeout is None else TIMED, getframe(0).f_back)
             life.joiner = joiner  # who never waits for this thread again
 
     def join_recorded(self, life, timeout):

@@ -1,10 +1,12 @@
 """What tasks wait for: that is noted before they wait, as if they had taken it."""
+import sys
 from time import monotonic
 
 from . import log, tasks
-from .log import WRITE, declare, put, write
+from .log import WRITE, declare, place_of, put, write
 from .places import chain_of, getframe
 from .recording import MOST_EVENTS, MOST_HELD, abandon, give_back, see, settle, tell_all_apart, withdraw
+from .steps import BREAKS, note, note_taking
 from .tasks import Held
 
 LATELY = 2  # how long before the end of the process, in seconds, a wait can have been broken off that is still named
@@ -47,6 +49,8 @@ def grant(lock):
     task.pending = None
     task.operations += 1
     lock.entry = entry
+    if task.is_ordered:
+        note_taking(task, lock, task.way, None, entry.code, place_of(task, entry))
     if entry.is_told:
         put("G %d\n" % task.number)
     if not task.way.is_taken:
@@ -81,20 +85,23 @@ def keep_wait(task):
     """What a task waited for stays in its trace, as if it had taken it and given it back."""
     entry = task.pending
     task.pending = None
+    if task.is_ordered:
+        note(task, BREAKS, entry.code >> 3)
     if entry.is_told:
         put("G %d\n" % task.number)
     if not task.way.is_taken:
         see(task, task.way)
     if len(task.held) > 1:
-        log.process.broken_off.append((monotonic(), task, [held.code for held in task.held]))
+        error = sys.exc_info()[1]  # (whose number is kept, since it has what its frames have)
+        log.process.broken_off.append((monotonic(), error and id(error), task, [held.code for held in task.held]))
     give_back(task, entry)
 
 
 def broken_off_lines():
-    """The waits that were broken off just now, when the process ends."""
-    lines = []
-    for when, task, codes in log.process.broken_off:
-        if task.number and monotonic() - when < LATELY:
+    """The waits that were broken off just now, when the process ends, or by the error that has ended its program."""
+    lines, last = [], id(getattr(sys, "last_value", None))
+    for when, error, task, codes in log.process.broken_off:
+        if task.number and (monotonic() - when < LATELY or error == last):
             for code in codes:
                 declare(code)
             lines.append("I %d %s\n" % (task.number, " ".join(map(str, codes))))

@@ -1,6 +1,8 @@
 """Programs that can't hang, though locks are taken in opposite orders: kept_apart.py WAY"""
+import queue
 import sys
 import threading
+from concurrent.futures import ThreadPoolExecutor
 
 from pairs import run_apart
 
@@ -65,5 +67,44 @@ def by_id():
     run_apart(both(*locks), both(*reversed(locks)))
 
 
-WAYS = {"gate": under_gate, "in-turn": in_turn, "try": tries, "timed": gives_up, "id": by_id}
+def told_by(tell, wait):
+    """Both at once, the second one when it is told to."""
+    works = [threading.Thread(target=lambda: (wait(), backwards())), threading.Thread(target=lambda: (forwards(), tell()))]
+    for work in works:
+        work.start()
+    for work in works:
+        work.join()
+    print("done")
+
+
+def by_event():
+    event = threading.Event()
+    told_by(event.set, event.wait)
+
+
+def by_barrier():
+    barrier = threading.Barrier(2)
+    told_by(barrier.wait, barrier.wait)
+
+
+def by_queue():
+    works = queue.Queue()
+    is_waiting = threading.Event()
+
+    def put():
+        is_waiting.wait()
+        works.put(None)
+
+    told_by(put, lambda: (is_waiting.set(), works.get()))
+
+
+def by_pool():
+    with ThreadPoolExecutor(2) as pool:
+        for work in forwards, backwards:
+            pool.submit(work).result()
+    print("done")
+
+
+WAYS = {"gate": under_gate, "in-turn": in_turn, "try": tries, "timed": gives_up, "id": by_id, "event": by_event, "barrier": by_barrier, "queue": by_queue,
+        "pool": by_pool}
 WAYS[sys.argv[1]]()
