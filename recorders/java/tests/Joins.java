@@ -5,12 +5,13 @@ import java.util.concurrent.locks.ReentrantLock;
  * unit, hangs, ended, whose thread has ended before, and again, whose thread the same thread has joined before), one that it doesn't take (other), none (none); by a thread that
  * joins the one that takes it (passed); and threads that take none (idle), of which there are many before one that
  * does (many). An interrupt may end the wait: pending before it, soon after it began, or pending before a timed one.
+ * No thread goes on by the time: each waits until the other one is where it has to be.
  */
 public class Joins {
     private static final ReentrantLock state = new ReentrantLock();
     private static final Object log = new Object();
     private static final Thread main = Thread.currentThread();
-    private static volatile boolean goesOn, isLast = true;
+    private static volatile boolean goesOn, isLast = true, hasTaken;
     private static String way;
 
     /** A thread with a class of its own. */
@@ -22,15 +23,24 @@ public class Joins {
     }
 
     static void work() {
-        if (way.equals("hangs")) pause();
+        while (way.equals("hangs") && !isWaiting(main)) pause();
         state.lock();
         state.unlock();
-        while (goesOn && !(isLast && main.getState() == Thread.State.WAITING)) pause();
+        hasTaken = true;
+        while (goesOn && !(isLast && isWaiting(main))) pause();
+    }
+
+    static void idle() {
+        while (!isWaiting(main)) pause();
+    }
+
+    static boolean isWaiting(Thread thread) {
+        return thread.getState() == Thread.State.WAITING;
     }
 
     static void pause() {
         try {
-            Thread.sleep(way.equals("idle") ? 150 : 50);
+            Thread.sleep(10);
         } catch (InterruptedException error) {
             throw new Error(error);
         }
@@ -40,7 +50,7 @@ public class Joins {
         Thread thread = new Thread(what);
         thread.setDaemon(true);
         thread.start();
-        if (!way.equals("hangs") && !way.equals("idle")) pause();
+        while (!hasTaken && !way.equals("hangs") && !way.equals("idle")) pause();
         return thread;
     }
 
@@ -56,6 +66,17 @@ public class Joins {
         } catch (InterruptedException error) {
             throw new Error(error);
         }
+    }
+
+    static void joinForEver() throws InterruptedException {
+        Thread thread = started(Joins::work);
+        Thread watch = new Thread(() -> {
+            while (!isWaiting(main) || !isWaiting(thread)) pause();
+            System.out.println("hung");
+        });
+        watch.setDaemon(true);
+        watch.start();
+        joinWithState(thread);
     }
 
     static void joinMany() throws InterruptedException {
@@ -100,23 +121,24 @@ public class Joins {
         goesOn = way.equals("held") || way.equals("many") || way.equals("passed") || way.equals("own");
         if (way.equals("ended")) joinEnded();
         if (way.equals("again")) joinAgain();
-        if (way.equals("held") || way.equals("hangs")) joinWithState(started(Joins::work));
+        if (way.equals("held")) joinWithState(started(Joins::work));
+        if (way.equals("hangs")) joinForEver();
         if (way.equals("timed")) joinForATime();
         if (way.equals("other")) joinOther(started(Joins::work));
         if (way.equals("none")) started(Joins::work).join();
-        if (way.equals("idle")) joinWithState(started(Joins::pause));
+        if (way.equals("idle")) joinWithState(started(Joins::idle));
         if (way.equals("many")) joinMany();
         if (way.equals("passed")) {
             Thread first = started(Joins::work);
             Thread second = new Thread(() -> joinQuietly(first));
             second.start();
-            pause();
+            while (!isWaiting(second)) pause();
             joinWithState(second);
         }
         if (way.equals("own")) {
             Worker worker = new Worker();
             worker.start();
-            pause();
+            while (!hasTaken) pause();
             joinWithState(worker);
         }
         if (way.equals("unit")) {
@@ -147,7 +169,7 @@ public class Joins {
     }
 
     static void interruptMain() {
-        while (main.getState() != Thread.State.TIMED_WAITING) Thread.onSpinWait();
+        while (main.getState() != Thread.State.TIMED_WAITING && !isWaiting(main)) Thread.onSpinWait();
         main.interrupt();
     }
 }

@@ -8,8 +8,10 @@ import java.util.concurrent.TimeUnit;
 public class Rejoins {
     private static final Object log = new Object();
     private static final Object rest = new Object();
+    private static final Thread main = Thread.currentThread();
+    private static volatile boolean isJoined, isOver;
 
-    /** A thread that lives for a while, or until it is told to stop. */
+    /** A thread that lives for a while after it is joined, or until it is told to stop. */
     static class Worker extends Thread {
         private final boolean isShort;
         private boolean isStopping;
@@ -20,7 +22,7 @@ public class Rejoins {
 
         @Override
         public void run() {
-            if (isShort) Rejoins.await(300);
+            if (isShort) awaitJoin();
             else work();
         }
 
@@ -52,6 +54,12 @@ public class Rejoins {
         }
     }
 
+    /** Until a while after the main thread has begun to wait for this one, or until that is over. */
+    static void awaitJoin() {
+        while (!isOver && !(isJoined && main.getState().name().endsWith("WAITING"))) await(1);
+        if (!isOver) await(100);
+    }
+
     interface Joining {
         void run() throws InterruptedException;
     }
@@ -60,6 +68,7 @@ public class Rejoins {
         synchronized (thread) {
             synchronized (thread) {
                 synchronized (log) {
+                    isJoined = true;
                     joins.run();
                 }
             }
@@ -90,7 +99,7 @@ public class Rejoins {
         if (way.equals("stops")) ((Worker) started(false)).shutDown();
         if (way.equals("closes")) ((Worker) started(false)).close();
         if (way.equals("virtual")) {
-            Runnable task = () -> await(300);
+            Runnable task = () -> awaitJoin();
             Thread thread = (Thread) Thread.class.getMethod("startVirtualThread", Runnable.class).invoke(null, task);
             joinUnderLog(thread, () -> thread.join());
         }
@@ -104,6 +113,7 @@ public class Rejoins {
         if (way.equals("wait")) joinUnderLog(thread, () -> TimeUnit.MILLISECONDS.timedWait(thread, 1));
         if (way.equals("no wait")) joinUnderLog(thread, () -> TimeUnit.MILLISECONDS.timedWait(thread, -1));
         if (way.equals("interrupted")) joinUnderLog(thread, () -> isInterrupted(thread));
+        isOver = true;
         while (way.equals("ended") && thread.isAlive()) Thread.sleep(10);
         if (way.equals("ended")) joinUnderLog(thread, () -> thread.join());
     }

@@ -20,7 +20,7 @@ public class Stops {
             thread.start();
             Thread.sleep(20);
             thread.stop();
-            thread.join(5000);
+            thread.join(60000);
             if (!thread.isAlive()) ended++;
         }
         System.out.println(ended);

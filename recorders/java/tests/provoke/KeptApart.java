@@ -1,3 +1,9 @@
+import java.util.concurrent.BlockingQueue;
+import java.util.concurrent.CountDownLatch;
+import java.util.concurrent.ExecutionException;
+import java.util.concurrent.ExecutorService;
+import java.util.concurrent.Executors;
+import java.util.concurrent.LinkedBlockingQueue;
 import java.util.concurrent.TimeUnit;
 import java.util.concurrent.locks.Lock;
 import java.util.concurrent.locks.ReentrantLock;
@@ -48,7 +54,47 @@ final class KeptApart {
         both(isLess ? one : other, isLess ? other : one);
     }
 
+    /** Both at once, the second one when it is told to. */
+    private static void told(Apart.Work tell, Apart.Work wait) throws InterruptedException {
+        Thread second = new Thread(() -> {
+            try {
+                wait.run();
+            } catch (InterruptedException interrupted) {
+                return;
+            }
+            backwards();
+        });
+        second.start();
+        Thread first = new Thread(() -> {
+            try {
+                forwards();
+                tell.run();
+            } catch (InterruptedException interrupted) {
+                return;
+            }
+        });
+        first.start();
+        first.join();
+        second.join();
+        System.out.println("done");
+    }
+
+    private static void byPool(ExecutorService pool) throws InterruptedException {
+        try {
+            pool.submit(KeptApart::forwards).get();
+            pool.submit(KeptApart::backwards).get();
+        } catch (ExecutionException failed) {
+            throw new Error(failed);
+        }
+        pool.shutdown();
+    }
+
     public static void main(String[] words) throws InterruptedException {
+        CountDownLatch latch = new CountDownLatch(1);
+        BlockingQueue<String> queue = new LinkedBlockingQueue<>();
+        if (words[0].equals("latch")) told(latch::countDown, latch::await);
+        if (words[0].equals("queue")) told(() -> queue.put("said"), queue::take);
+        if (words[0].equals("pool")) byPool(Executors.newFixedThreadPool(2));
         if (words[0].equals("gate")) {
             Apart.run(() -> withinGate(KeptApart::forwards), () -> withinGate(KeptApart::backwards));
         }

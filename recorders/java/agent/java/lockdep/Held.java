@@ -24,9 +24,12 @@ final class Held {
         lock = null;
         object = null;
         before = null;
-        isDropped = false;
+        isDropped = isInSteps = false;
         levels = reads = 0;
     }
+
+    /** Whether the order of steps has that it was taken. */
+    boolean isInSteps;
 
     boolean isReader() {
         return Modes.isOfReader(code);

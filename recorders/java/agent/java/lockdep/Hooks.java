@@ -4,6 +4,8 @@ import java.io.File;
 import java.time.Duration;
 import java.util.Date;
 import java.util.List;
+import java.util.concurrent.CountDownLatch;
+import java.util.concurrent.FutureTask;
 import java.util.concurrent.TimeUnit;
 import java.util.concurrent.locks.Condition;
 
@@ -54,12 +56,35 @@ public final class Hooks extends StampedHooks {
         task.leave();
     }
 
+    public static void notify(Object object, int site) {
+        notifies(object, site);
+        object.notify();
+    }
+
+    public static void notifyAll(Object object, int site) {
+        notifies(object, site);
+        object.notifyAll();
+    }
+
+    /** Who waits for an object's monitor is woken. (Whether it may be is found out by the call that follows.) */
+    private static void notifies(Object object, int site) {
+        Task task = !Steps.isOn || object == null || !Thread.holdsLock(object) ? null : Task.begin();
+        if (task == null) return;
+        try {
+            task.monitor(object).message = task.giveMessage(site);
+        } catch (Throwable error) {
+            task.abandon(error);
+            return;
+        }
+        task.leave();
+    }
+
     public static void wait(Object object, int site) throws InterruptedException {
         int levels = suspend(object);
         try {
             object.wait();
         } finally {
-            resume(object, levels, site);
+            resume(object, levels, site, true);
         }
     }
 
@@ -68,7 +93,7 @@ public final class Hooks extends StampedHooks {
         try {
             object.wait(milliseconds);
         } finally {
-            resume(object, levels, site);
+            resume(object, levels, site, milliseconds == 0);
         }
     }
 
@@ -77,7 +102,7 @@ public final class Hooks extends StampedHooks {
         try {
             object.wait(milliseconds, nanoseconds);
         } finally {
-            resume(object, levels, site);
+            resume(object, levels, site, milliseconds == 0 && nanoseconds == 0);
         }
     }
 
@@ -87,7 +112,7 @@ public final class Hooks extends StampedHooks {
         try {
             unit.timedWait(object, time);
         } finally {
-            resume(object, levels, site);
+            resume(object, levels, site, false);
         }
     }
 
@@ -105,11 +130,12 @@ public final class Hooks extends StampedHooks {
         return levels;
     }
 
-    static void resume(Object object, int levels, int site) {
+    /** A wait for a monitor has ended. If it had a limit, nothing says whether somebody woke it or the time did: then no message is got. */
+    static void resume(Object object, int levels, int site, boolean isWoken) {
         Task task = levels == 0 ? null : Task.begin();
         if (task == null) return;
         try {
-            task.resume(object, levels, site);
+            task.resume(object, levels, site, isWoken);
         } catch (Throwable error) {
             task.abandon(error);
             return;
@@ -161,7 +187,9 @@ public final class Hooks extends StampedHooks {
         Task task = thread == null ? null : Task.begin();
         if (task == null) return;
         try {
-            Known.started((Thread) thread, Site.of(site).ofThreads());
+            Known life = Known.started((Thread) thread, Site.of(site).ofThreads());
+            life.message = task.giveMessage(site);
+            Provoke.starts(life, site);
         } catch (Throwable error) {
             task.abandon(error);
             return;
@@ -204,6 +232,49 @@ public final class Hooks extends StampedHooks {
         Join.join(thread, milliseconds, (int) rest, site);
     }
 
+    // ---- What threads tell one another by objects of the JDK's.
+
+    /** Something is told by an object: about another one, or for all who ask. */
+    @Apart
+    public static void tells(Object by, Object about, int site) {
+        Task task = Steps.isOn && !isOver(by) ? Task.begin() : null;
+        if (task == null) return;
+        try {
+            Known.by(by).messages().add(System.identityHashCode(about), task.member, task.giveMessage(Site.ofCall(site)));
+        } catch (Throwable error) {
+            task.abandon(error);
+            return;
+        }
+        task.leave();
+    }
+
+    /** Whether nobody waits any more for what an object tells. (What a class of the program's overrides isn't called.) */
+    private static boolean isOver(Object by) {
+        if (by.getClass() == CountDownLatch.class) return ((CountDownLatch) by).getCount() == 0;
+        return by.getClass() == FutureTask.class && ((FutureTask<?>) by).isDone();
+    }
+
+    /** A thread goes on by what was told about an object, which it may get there, or by all that was, if that is the object that tells it. */
+    @Apart
+    public static void hears(Object by, Object about, int site) {
+        Task task = Steps.isOn && about != null ? Task.begin() : null;
+        if (task == null) return;
+        try {
+            Messages messages = Known.by(by).messages();
+            int[] heard = about == by ? messages.all() : messages.take(System.identityHashCode(about));
+            for (int message : heard) task.note(Steps.GETS, message, Site.ofCall(site), 0);
+        } catch (Throwable error) {
+            task.abandon(error);
+            return;
+        }
+        task.leave();
+    }
+
+    /** The same if that is so. */
+    public static void hears(boolean isSo, Object by, int site) {
+        if (isSo) hears(by, by, site);
+    }
+
     // ---- Programs that are started.
 
     /** A program is started by a builder, or several by a list of these, or one by its words. */
@@ -231,39 +302,55 @@ public final class Hooks extends StampedHooks {
 
     // ---- Conditions.
 
+    public static void signal(Condition condition, int site) {
+        Pause.signals(condition, site);
+        condition.signal();
+    }
+
+    public static void signalAll(Condition condition, int site) {
+        Pause.signals(condition, site);
+        condition.signalAll();
+    }
+
     public static void await(Condition condition, int site) throws InterruptedException {
         Pause pause = Pause.of(condition);
         try {
             condition.await();
         } finally {
-            pause.end(site);
+            pause.end(site, true);
         }
     }
 
     public static boolean await(Condition condition, long time, TimeUnit unit, int site) throws InterruptedException {
         Pause pause = Pause.of(condition);
+        boolean isWoken = false;
         try {
-            return condition.await(time, unit);
+            isWoken = condition.await(time, unit);
+            return isWoken;
         } finally {
-            pause.end(site);
+            pause.end(site, isWoken);
         }
     }
 
     public static long awaitNanos(Condition condition, long time, int site) throws InterruptedException {
         Pause pause = Pause.of(condition);
+        long left = 0;
         try {
-            return condition.awaitNanos(time);
+            left = condition.awaitNanos(time);
+            return left;
         } finally {
-            pause.end(site);
+            pause.end(site, left > 0);
         }
     }
 
     public static boolean awaitUntil(Condition condition, Date date, int site) throws InterruptedException {
         Pause pause = Pause.of(condition);
+        boolean isWoken = false;
         try {
-            return condition.awaitUntil(date);
+            isWoken = condition.awaitUntil(date);
+            return isWoken;
         } finally {
-            pause.end(site);
+            pause.end(site, isWoken);
         }
     }
 
@@ -272,7 +359,7 @@ public final class Hooks extends StampedHooks {
         try {
             condition.awaitUninterruptibly();
         } finally {
-            pause.end(site);
+            pause.end(site, true);
         }
     }
 

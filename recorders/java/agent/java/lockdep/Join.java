@@ -56,7 +56,7 @@ final class Join {
         try {
             joinRecorded(thread, milliseconds, nanoseconds, site);
         } finally {
-            Hooks.resume(thread, levels, site);
+            Hooks.resume(thread, levels, site, milliseconds == 0 && nanoseconds == 0);
         }
     }
 
@@ -82,15 +82,16 @@ final class Join {
             if (!thread.isAlive()) join.pass();
             else if (!isShort) join.waitLong(thread, isTimed ? milliseconds - PATIENCE : 0, nanoseconds);
         }
-        if (!thread.isAlive()) noteJoined(thread);
+        if (!thread.isAlive()) noteJoined(thread, Modes.of(false, isTimed ? Modes.Manner.WAITS_FOR_A_TIME : Modes.Manner.WAITS), site);
     }
 
     /** The running thread has waited for the end of another one, and never waits for that one again. */
-    private static void noteJoined(Thread thread) {
+    private static void noteJoined(Thread thread, int mode, int site) {
         Task task = Task.begin();
         if (task == null) return;
         try {
             Known life = Known.ofThread(thread);
+            if (life != null && life.task != null && life.joiner != task) task.note(Steps.JOINS, life.task.member, site, mode);
             if (life != null) life.joiner = task;
         } catch (Throwable error) {
             task.abandon(error);
@@ -102,7 +103,7 @@ final class Join {
     /** An interrupt ended it before it was written. It would have waited for ever, so its order is written even so. */
     private void breakOff() {
         want();
-        end(true);
+        end(false, true);
     }
 
     private void waitLong(Thread thread, long milliseconds, int nanoseconds) throws InterruptedException {
@@ -114,7 +115,7 @@ final class Join {
             isBrokenOff = manner == Modes.Manner.WAITS; // it would have waited for ever, so the order stays
             throw brokenOff;
         } finally {
-            end(isBrokenOff || !thread.isAlive() && life.task != null);
+            end(!thread.isAlive() && life.task != null, isBrokenOff);
         }
     }
 
@@ -130,10 +131,11 @@ final class Join {
         task.leave();
     }
 
-    private void end(boolean isPassed) {
+    private void end(boolean isPassed, boolean isBrokenOff) {
         if (Task.begin() == null) return;
         try {
-            if (isPassed) task.passed(wanted);
+            if (isBrokenOff) task.breakOff(wanted);
+            else if (isPassed) task.passed(wanted);
             else task.withdraw(wanted);
         } catch (Throwable error) {
             task.abandon(error);

@@ -45,9 +45,16 @@ final class Known extends WeakReference<Object> {
     volatile Task joiner;
     volatile boolean isWaitedFor;
     boolean isTold;
+    /** Its number in the order of steps, and the key that was told there last; and the last message that was given by it. */
+    volatile int step;
+    private volatile int toldKey;
+    volatile int message;
+    private Messages messages;
     /** For Provoke: the orders whose first lock it was, and its number in the file. */
     volatile long orders;
     volatile long number;
+    /** Of a thread: the place where it was started, there. */
+    long[] startedAt = {};
 
     private Known(Object object, int hash, boolean isMonitor, boolean isReader, Known target, Made made) {
         super(object);
@@ -144,6 +151,16 @@ final class Known extends WeakReference<Object> {
         givers = more;
     }
 
+    /** Whether nobody but its holder can release it. */
+    boolean isOfHolder() {
+        return isMonitor || isLife() || (isReentrant && isOfJdk);
+    }
+
+    /** Whether it is a thread that was seen to start. */
+    boolean isLife() {
+        return made != null && made.kind.equals(Made.STARTED);
+    }
+
     boolean isGivenOutBy(Known lock) {
         for (Known giver : givers) {
             if (giver == lock) return true;
@@ -235,14 +252,15 @@ final class Known extends WeakReference<Object> {
 
     // ---- Threads, which are locks to who joins them.
 
-    static void started(Thread thread, Made made) {
-        if (find(thread, false) == null) add(thread, false, false, null, made);
+    static Known started(Thread thread, Made made) {
+        Known known = find(thread, false);
+        return known != null ? known : add(thread, false, false, null, made);
     }
 
     /** What is known of a thread that was seen to start, or null. */
     static Known ofThread(Thread thread) {
         Known known = find(thread, false);
-        return known != null && known.made != null && known.made.kind.equals(Made.STARTED) ? known : null;
+        return known != null && known.isLife() ? known : null;
     }
 
     /** Somebody waits for the end of this thread. */
@@ -250,6 +268,37 @@ final class Known extends WeakReference<Object> {
         if (!isApart) tellApart();
         isWaitedFor = true;
         Recording.tellLife(this);
+    }
+
+    // ---- Objects by which threads tell one another something.
+
+    static Known by(Object object) {
+        Known known = find(object, false);
+        return known != null ? known : add(object, false, false, null, null);
+    }
+
+    synchronized Messages messages() {
+        if (messages == null) messages = new Messages();
+        return messages;
+    }
+
+    // ---- The order of steps.
+
+    /** The number of the lock there. */
+    @Within
+    int step(Trace task) {
+        return toldKey == key ? step : tellStep(task);
+    }
+
+    @Apart
+    private synchronized int tellStep(Trace task) {
+        if (step == 0) step = Steps.locks.incrementAndGet();
+        if (toldKey != key) {
+            Recording.tellKey(key);
+            Steps.put(task, Steps.word(Steps.NAMES, step, key, 0));
+            toldKey = key;
+        }
+        return step;
     }
 
     // ---- Single locks.

@@ -48,7 +48,7 @@ abstract class LockHooks {
     }
 
     public static void lockInterruptibly(Lock lock, int site) throws InterruptedException {
-        Pending pending = Pending.of(lock, Modes.Manner.WAITS, site);
+        Pending pending = Pending.of(lock, Modes.Manner.WAITS_INTERRUPTIBLY, site);
         boolean isTaken = false;
         try {
             lock.lockInterruptibly();

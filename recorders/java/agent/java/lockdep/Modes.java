@@ -12,13 +12,18 @@ final class Modes {
     static final int TIMED_WRITE = 6;
 
     /** In which manner a lock is taken, by a reader or a writer. */
-    enum Manner { WAITS, TRIES, WAITS_FOR_A_TIME }
+    enum Manner { WAITS, WAITS_INTERRUPTIBLY, TRIES, WAITS_FOR_A_TIME }
 
     private Modes() {
     }
 
+    /** Whether a lock is waited for without a limit of time. */
+    static boolean isEndless(Manner manner) {
+        return manner == Manner.WAITS || manner == Manner.WAITS_INTERRUPTIBLY;
+    }
+
     static int of(boolean isReader, Manner manner) {
-        if (manner == Manner.WAITS) return isReader ? READ : WRITE;
+        if (isEndless(manner)) return isReader ? READ : WRITE;
         if (manner == Manner.TRIES) return isReader ? TRY_READ : TRY_WRITE;
         return isReader ? TIMED_READ : TIMED_WRITE;
     }

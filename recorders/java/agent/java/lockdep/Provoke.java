@@ -33,9 +33,12 @@ public final class Provoke {
     private static final int CALLERS_OF_HELD = 8;
     private static final int COUNTS = 16;
     private static final int FIRST_THREAD = COUNTS + MOST_ORDERS * 16;
-    private static final int OF_THREAD = 176;
+    private static final int OF_THREAD = 192;
     private static final int OF_HELD = 88;
     private static final int SIZE_OF_THREAD = OF_THREAD + Task.MOST_HELD * OF_HELD;
+    private static final int MOST_TIMERS = 16;
+    private static final int OF_TIMER = 32;
+    private static final int COUNTING = FIRST_THREAD + MOST_THREADS * SIZE_OF_THREAD + MOST_TIMERS * OF_TIMER + MOST_ORDERS * 4 + 12;
 
     static final int RUNS = 0;
     static final int STANDS = 1;
@@ -45,15 +48,21 @@ public final class Provoke {
     private static final int UNDER = 1;
     private static final int PAUSES = 2;
 
-    /** The limits of provoke/threads.c: milliseconds of a pause, and of all of a process; the pauses of an order. */
-    private static final int DEFAULT_PAUSE = 300;
+    /** The limits of provoke/threads.c: milliseconds of all pauses of a process; the pauses of an order. */
     private static final int MOST_PAUSED = 10000;
     private static final int MOST_PAUSES = 40;
     private static final int PAUSES_OF_ONE_LENGTH = 10;
-    /** How often all callers are looked at, at one place. */
-    private static final int MOST_WALKS = 2000;
+    /** Milliseconds from one look at all threads to the next. */
+    private static final int LOOK = 100;
 
     private static final int BITS_OF_CLASS = 28;
+    /** The mode of a reader who waits behind a writer that waits, as in the JDK all do. */
+    private static final int READS_BEHIND = 2;
+    /** What a thread waits in, and who may release a lock. */
+    private static final int IN_JOIN = 3;
+    private static final int INTERRUPTIBLE = 6;
+    private static final int BY_HOLDER = 1;
+    private static final int BY_OTHERS = 3;
 
     /** What takes long to make, and isn't needed to record. */
     private static final class Later {
@@ -79,6 +88,8 @@ public final class Provoke {
     private final HashMap<String, Long> numbers = new HashMap<>();
     private final int pid = (int) Recording.pid();
     private final int pause;
+    /** The milliseconds of the first pause at an order, if that is another one. */
+    private final int[] firsts = new int[MOST_ORDERS];
     private long paused;
     private long locks;
     /** Those of all tasks. */
@@ -90,11 +101,11 @@ public final class Provoke {
         }
         table.order(ByteOrder.nativeOrder());
         texts = new File(path + ".texts");
-        this.pause = pause == null ? DEFAULT_PAUSE : Integer.parseInt(pause);
+        this.pause = Integer.parseInt(pause);
         int order = -1;
         for (String line : new String(Files.readAllBytes(Paths.get(plan)), StandardCharsets.UTF_8).split("\n")) {
             String[] words = line.split(" ", 3);
-            if (words[0].equals("order")) order++;
+            if (words[0].equals("order")) firsts[++order % MOST_ORDERS] = words.length == 3 ? Integer.parseInt(words[2]) : 0;
             else if (words.length == 3 && words[1].equals("-") && order >= 0 && order < MOST_ORDERS) {
                 Fits fits = this.plan.computeIfAbsent(words[2], text -> new Fits());
                 if (words[0].equals("hold")) fits.holds |= 1L << order;
@@ -106,6 +117,34 @@ public final class Provoke {
     /** From here on threads of this process are held back. */
     public static void begin(String table, String plan, String pause) throws IOException {
         it = new Provoke(table, plan, pause);
+        Thread counting = new Thread(it::countThreads, "lockdep");
+        counting.setDaemon(true);
+        counting.start();
+    }
+
+    /** Writes how many threads can go on, now and then: of the program's own, those that don't wait without an end. */
+    private void countThreads() {
+        ThreadGroup program = Thread.currentThread().getThreadGroup();
+        Thread[] threads = new Thread[MOST_THREADS];
+        try {
+            while (true) {
+                int going = 0;
+                int count = program.enumerate(threads);
+                for (int at = 0; at < count; at++) if (canGoOn(threads[at])) going++;
+                table.putInt(COUNTING + 4, going);
+                table.putInt(COUNTING, pid);
+                Thread.sleep(LOOK);
+            }
+        } catch (InterruptedException interrupted) {
+            Thread.currentThread().interrupt();
+        }
+    }
+
+    /** A thread without callers is one of the machine's own, as the one that waits for the others to end. */
+    private static boolean canGoOn(Thread thread) {
+        Thread.State state = thread.getState();
+        if (thread == Thread.currentThread() || state == Thread.State.BLOCKED || state == Thread.State.WAITING) return false;
+        return thread.getStackTrace().length > 0;
     }
 
     public static boolean isOn() {
@@ -119,22 +158,29 @@ public final class Provoke {
         return it == null ? Fits.NONE : it.plan.getOrDefault(place, Fits.NONE);
     }
 
-    /** A thread has a task from here on. A virtual one isn't held back. */
-    static Stand begin(String nameOfThread) {
+    /** A thread is started at a place. To who joins it, it is a lock. */
+    static void starts(Known life, int site) {
+        if (it == null) return;
+        life.orders |= Site.of(site).fits().holds;
+        life.startedAt = new long[] {it.number(Site.of(site).innermost())};
+    }
+
+    /** A thread has a task from here on, and perhaps a life that others wait for. A virtual one isn't held back. */
+    static Stand begin(String nameOfThread, Known life) {
         if (it == null) return null;
         boolean isVirtual = Thread.currentThread().getClass().getName().startsWith("java.lang.VirtualThread");
-        Stand stand = new Stand(isVirtual ? 0 : it.freePlace(), it.number(nameOfThread));
+        Stand stand = new Stand(isVirtual ? 0 : it.freePlace(), it.number(nameOfThread), life);
         if (stand.place != 0) it.all.add(stand);
         return stand;
     }
 
-    /** A task asks for a lock without a limit of time, and doesn't hold it. */
-    static void ask(Stand stand, Known lock, int mode, Held[] held, int depth, int site) {
+    /** A task asks for a lock without a limit of time, and doesn't hold it. It is written if it holds others, or if readers may wait behind it. */
+    static void ask(Stand stand, Known lock, int mode, Held[] held, int depth, int site, boolean hasReaders) {
         if (stand.place == 0) return;
         Fits fits = Site.of(site).fits();
         stand.asks(lock, Modes.isOfReader(mode), held, depth, it.callers(site, fits, fits.wants, MOST_CALLERS));
         if (fits.wants != 0) it.consider(stand, fits.wants);
-        if (depth > 0) it.change(stand, WAITS);
+        if (depth > 0 || hasReaders || stand.life != null) it.change(stand, WAITS);
     }
 
     /** A task goes on. */
@@ -160,11 +206,11 @@ public final class Provoke {
     // ---- Standing.
 
     private void consider(Stand stand, long wants) {
-        long under = 0;
+        long under = stand.life == null ? 0 : stand.life.orders & wants;
         for (int at = 0; at < stand.depth; at++) under |= stand.held[at].lock.orders & wants;
         count(wants, REACHED);
         count(under, UNDER);
-        if (stand.depth == 0) return;
+        if (stand.depth == 0 && under == 0) return;
         int order = Long.numberOfTrailingZeros(under == 0 ? wants : under);
         stand.order = under == 0 ? 0 : order + 1;
         int before = (int) Later.WORD.getVolatile((ByteBuffer) table, COUNTS + 16 * order + 4 * PAUSES);
@@ -172,7 +218,8 @@ public final class Provoke {
         count(1L << order, PAUSES);
         stand.goes = false;
         change(stand, STANDS);
-        if (!leadsBack(stand, stand, new HashSet<>())) stand(stand, pause >> before / PAUSES_OF_ONE_LENGTH);
+        int length = before == 0 && firsts[order] != 0 ? firsts[order] : pause >> before / PAUSES_OF_ONE_LENGTH;
+        stand(stand, length);
     }
 
     private void count(long orders, int what) {
@@ -185,11 +232,11 @@ public final class Provoke {
         return paused;
     }
 
-    /** Holds this thread back until it is let go, or for so many milliseconds, or until it is interrupted. */
+    /** Holds this thread back until a cycle is closed, also by a writer that comes later, or for so many milliseconds, or until it is interrupted. */
     private void stand(Stand stand, int length) {
         long end = System.nanoTime() + length * 1000000L;
         try {
-            while (System.nanoTime() < end && !stand.goes) Thread.sleep(1);
+            while (!stand.goes && !leadsBack(stand, stand, new HashSet<>()) && System.nanoTime() < end) Thread.sleep(1);
         } catch (InterruptedException interrupted) {
             Thread.currentThread().interrupt();
         }
@@ -200,13 +247,21 @@ public final class Provoke {
 
     /** Whether who asks for a lock waits, over others that stand or wait, for this one. Those that stand are let go. */
     private boolean leadsBack(Stand from, Stand own, Set<Stand> seen) {
-        if (from != own && own.isInTheWay(from)) return true;
+        boolean isBehindWriter = from.isReader && isBehindWriter(from);
+        if ((from != own || isBehindWriter) && own.isInTheWay(from, isBehindWriter)) return true;
         for (Stand other : all) {
-            if (other == own || !other.isAsking || !other.isInTheWay(from) || !seen.add(other)) continue;
+            if (other == own || !other.isAsking || !other.isInTheWay(from, isBehindWriter) || !seen.add(other)) continue;
             if (leadsBack(other, own, seen)) {
                 other.goes = true;
                 return true;
             }
+        }
+        return false;
+    }
+
+    private boolean isBehindWriter(Stand reader) {
+        for (Stand other : all) {
+            if (other.isAhead(reader)) return true;
         }
         return false;
     }
@@ -247,21 +302,27 @@ public final class Provoke {
 
     private void write(Stand stand) {
         int place = stand.place;
-        table.putInt(place + 20, stand.isReader ? 1 : 0);
+        table.putInt(place + 20, stand.isReader ? READS_BEHIND : 0);
         table.putLong(place + 24, numberOf(stand.awaited));
         table.putInt(place + 32, stand.stack.length);
-        table.putInt(place + 36, stand.depth);
+        boolean isLifeShown = stand.life != null && stand.depth < Task.MOST_HELD;
+        table.putInt(place + 36, stand.depth + (isLifeShown ? 1 : 0));
         for (int at = 0; at < stand.stack.length; at++) table.putLong(place + 40 + 8 * at, stand.stack[at]);
         table.putInt(place + 172, (int) stand.name);
-        for (int at = 0; at < stand.depth; at++) write(stand.held[at], place + OF_THREAD + at * OF_HELD);
+        table.putInt(place + 184, stand.isInterruptible ? INTERRUPTIBLE : stand.awaited.isLife() ? IN_JOIN : 0);
+        for (int at = 0; at < stand.depth; at++) {
+            Held held = stand.held[at];
+            write(held.lock, held.isReader(), held.stack, place + OF_THREAD + at * OF_HELD);
+        }
+        if (isLifeShown) write(stand.life, false, stand.life.startedAt, place + OF_THREAD + stand.depth * OF_HELD);
     }
 
-    private void write(Held held, int place) {
-        table.putLong(place, numberOf(held.lock));
-        table.putInt(place + 8, held.isReader() ? 1 : 0);
-        table.putInt(place + 12, held.stack.length);
-        table.putLong(place + 16, held.lock.orders);
-        for (int at = 0; at < held.stack.length; at++) table.putLong(place + 24 + 8 * at, held.stack[at]);
+    private void write(Known lock, boolean isReader, long[] stack, int place) {
+        table.putLong(place, numberOf(lock));
+        table.putInt(place + 8, (isReader ? 1 : 0) | (lock.isOfHolder() ? BY_HOLDER : BY_OTHERS) << 8);
+        table.putInt(place + 12, stack.length);
+        table.putLong(place + 16, lock.orders);
+        for (int at = 0; at < stack.length; at++) table.putLong(place + 24 + 8 * at, stack[at]);
     }
 
     /** A lock's own number, before the place of its class's name if a recording has that just so. */
@@ -280,7 +341,7 @@ public final class Provoke {
     /** The callers of this thread, the innermost first; if the place is in no order, or was looked at often, only that. */
     private long[] callers(int site, Fits fits, long orders, int most) {
         Site at = Site.of(site);
-        if (orders != 0 && fits.walks++ < MOST_WALKS) return stack(most);
+        if (orders != 0 && fits.walks++ < Site.MOST_WALKS) return stack(most);
         if (at.only == null) at.only = new long[] {number(at.innermost())};
         return at.only;
     }

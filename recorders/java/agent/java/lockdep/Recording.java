@@ -65,6 +65,7 @@ public final class Recording {
         while (!path.createNewFile()) path = new File(folder, pid + "-" + ++number);
         Recording recording = new Recording(path);
         recording.put("process " + pid + " " + System.currentTimeMillis() + "000000\n");
+        Steps.begin(path);
         begin(recording, sourceFolders);
     }
 
@@ -178,6 +179,27 @@ public final class Recording {
         }
     }
 
+    /** The lock of a key that the order of steps has. */
+    @Apart
+    static void tellKey(int key) {
+        synchronized (it) {
+            StringBuilder text = new StringBuilder();
+            it.declare(key << 3, text);
+            it.put(text.toString());
+        }
+    }
+
+    /** The number of a place that the order of steps has. */
+    @Apart
+    static int tellPlace(Site site) {
+        synchronized (it) {
+            StringBuilder text = new StringBuilder();
+            int number = site.told(it, text);
+            it.put(text.toString());
+            return number;
+        }
+    }
+
     /** A class of the program is left unchanged. */
     public static void unrewritten() {
         synchronized (it) {
@@ -250,6 +272,7 @@ public final class Recording {
         if (task.number == 0) {
             task.number = ++taskCount;
             text.append("N ").append(task.number).append('\t').append(task.threadName()).append('\n');
+            text.append("J ").append(task.number).append(' ').append(task.member).append('\n');
         }
         if (task.life != null) addLife(task.life, text);
         StringBuilder lines = new StringBuilder();

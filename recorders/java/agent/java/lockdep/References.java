@@ -142,6 +142,22 @@ public final class References {
         Hooks.wait(object, milliseconds, nanoseconds, site);
     }
 
+    public static void notify(int site, Object object) {
+        Hooks.notify(object, site);
+    }
+
+    public static void notifyAll(int site, Object object) {
+        Hooks.notifyAll(object, site);
+    }
+
+    public static void signal(int site, Condition condition) {
+        Hooks.signal(condition, site);
+    }
+
+    public static void signalAll(int site, Condition condition) {
+        Hooks.signalAll(condition, site);
+    }
+
     public static void await(int site, Condition condition) throws InterruptedException {
         Hooks.await(condition, site);
     }

@@ -12,6 +12,8 @@ import java.util.stream.Stream;
 public final class Site {
     /** How many bytes the name of a class of locks may have, so that there is room for a single lock's number. */
     private static final int MOST_NAME = 53;
+    /** How often all callers are looked at, at one place. */
+    static final int MOST_WALKS = 2000;
     /** Before what a thread is known by. */
     private static final String THREAD = "thread:";
     /** On the stack of a constructor that looks for its caller. */
@@ -27,6 +29,8 @@ public final class Site {
 
     private static volatile Site[] all = new Site[1024];
     private static int count;
+    /** Places in the JDK with the program's own lines that led there, by both. */
+    private static final ConcurrentHashMap<String, Integer> calls = new ConcurrentHashMap<>();
 
     private final Source source;
     private final String method;
@@ -37,6 +41,7 @@ public final class Site {
     private final Call call;
     private Made made;
     private int told;
+    private int walks;
     private Provoke.Fits fits;
     /** Where the second file of Provoke has it, alone. */
     long[] only;
@@ -123,10 +128,26 @@ public final class Site {
 
     /** This place with the program's own line that led there. */
     static int withCaller(int number) {
-        Site site = of(number);
-        String caller = walker.walk(frames -> frames.filter(frame -> isOfProgram(frame.getDeclaringClass()) && !isBetween(frame)).findFirst()
+        return of(number).by(callerInProgram());
+    }
+
+    private static String callerInProgram() {
+        return walker.walk(frames -> frames.filter(frame -> isOfProgram(frame.getDeclaringClass()) && !isBetween(frame)).findFirst()
                 .map(frame -> place(frame)).orElse(""));
-        return add(new Site(site.source, site.method, site.line, site.ordinal, "\t" + caller, null));
+    }
+
+    private int by(String caller) {
+        return add(new Site(source, method, line, ordinal, "\t" + caller, null));
+    }
+
+    /** The same, once for each such line; the place itself if none led there, or if that was looked for often, which takes long. */
+    static int ofCall(int number) {
+        if (of(number).walks++ >= MOST_WALKS) return number;
+        String caller = callerInProgram();
+        if (caller.isEmpty()) return number;
+        Integer known = calls.get(number + caller);
+        if (known == null) calls.put(number + caller, known = of(number).by(caller));
+        return known;
     }
 
     /** (Code that calls constructors by reflection has its own loader.) */
@@ -167,6 +188,12 @@ public final class Site {
     int told(Recording recording, StringBuilder text) {
         if (told == 0) told = recording.numberOfPlace(place(), text);
         return told;
+    }
+
+    /** The same, for the order of steps. */
+    @Within
+    int number() {
+        return told != 0 ? told : Recording.tellPlace(this);
     }
 
     /** The class of what is made here. */

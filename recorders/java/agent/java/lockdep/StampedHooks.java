@@ -30,7 +30,7 @@ abstract class StampedHooks extends LockHooks {
     }
 
     public static long writeLockInterruptibly(StampedLock lock, int site) throws InterruptedException {
-        Pending pending = Pending.of(Part.of(lock, false), Modes.Manner.WAITS, site);
+        Pending pending = Pending.of(Part.of(lock, false), Modes.Manner.WAITS_INTERRUPTIBLY, site);
         long stamp = 0;
         try {
             stamp = lock.writeLockInterruptibly();
@@ -44,7 +44,7 @@ abstract class StampedHooks extends LockHooks {
     }
 
     public static long readLockInterruptibly(StampedLock lock, int site) throws InterruptedException {
-        Pending pending = Pending.of(Part.of(lock, true), Modes.Manner.WAITS, site);
+        Pending pending = Pending.of(Part.of(lock, true), Modes.Manner.WAITS_INTERRUPTIBLY, site);
         long stamp = 0;
         try {
             stamp = lock.readLockInterruptibly();

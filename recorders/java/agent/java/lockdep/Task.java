@@ -67,6 +67,7 @@ final class Task extends Trace {
         task.isBusy = true;
         here.set(task);
         Recording.add(task);
+        if (task.life != null) task.note(Steps.BEGINS, task.life.message, 0, 0);
         task.leave();
         return task;
     }
@@ -130,7 +131,7 @@ final class Task extends Trace {
             return;
         }
         Known lock = monitor(object);
-        if (isAsked && stand != null) Provoke.ask(stand, lock, Modes.WRITE, held, depth, site);
+        if (isAsked && stand != null) Provoke.ask(stand, lock, Modes.WRITE, held, depth, site, false);
         take(lock, object, Modes.WRITE, site);
     }
 
@@ -146,6 +147,7 @@ final class Task extends Trace {
     @Apart
     private void exitUnseen(Object object) {
         if (leftOut == null || !leftOut.remove(object)) unseenReleases++;
+        else if (!leftOut.has(object)) noteRelease(monitor(object));
     }
 
     /** The held entry of a monitor. */
@@ -158,7 +160,7 @@ final class Task extends Trace {
     }
 
     @Within
-    private Known monitor(Object object) {
+    Known monitor(Object object) {
         int hash = System.identityHashCode(object); // (which takes longer for what is locked)
         Known known = recent[hash & MOST_RECENT];
         return known != null && known.get() == object && known.isMonitor ? known : lookUp(object, hash, true);
@@ -182,10 +184,12 @@ final class Task extends Trace {
     /** A monitor is released for a while: how often it was taken, 0 if that wasn't seen. */
     int suspend(Object object) {
         Held entry = find(object);
+        if (entry != null) beginWait(entry.lock);
         return entry == null ? 0 : suspend(entry);
     }
 
-    void resume(Object object, int levels, int site) {
+    void resume(Object object, int levels, int site, boolean isWoken) {
+        if (isWoken) endWait(monitor(object), site);
         Held entry = take(monitor(object), object, Modes.WRITE, site);
         if (entry != null) entry.levels = levels;
         for (int level = 1; entry == null && level < levels; level++) leftOut.add(object);
@@ -214,8 +218,9 @@ final class Task extends Trace {
     Held want(Known lock, Modes.Manner manner, int site) {
         settle();
         if (again(lock) != null) return null;
-        if (manner == Modes.Manner.WAITS && stand != null) {
-            Provoke.ask(stand, lock.target, Modes.of(lock.isReader, manner), held, depth, site);
+        if (Modes.isEndless(manner) && stand != null) {
+            stand.isInterruptible = manner == Modes.Manner.WAITS_INTERRUPTIBLY;
+            Provoke.ask(stand, lock.target, Modes.of(lock.isReader, manner), held, depth, site, lock != lock.target || !lock.isReentrant);
         }
         Held entry = push(lock.target, null, Modes.of(lock.isReader, manner), site);
         if (entry == null) return null;
@@ -244,6 +249,7 @@ final class Task extends Trace {
         }
         pending = null;
         operations++;
+        if (Steps.isOn) noteTaking(lock.target, wanted, wanted.code & 7, site);
         if (!way.isTaken) see();
         if (!lock.target.isReentrant) lock.target.addHolder(this);
     }
@@ -294,6 +300,11 @@ final class Task extends Trace {
 
     /** What was wanted won't be waited for any longer, but would have been for ever: it is written as taken and given back. */
     void breakOff(Held wanted) {
+        if (wanted != null && wanted == pending) note(Steps.BREAKS, wanted.code >>> 3, 0, 0);
+        keep(wanted);
+    }
+
+    private void keep(Held wanted) {
         if (wanted == null || wanted != pending) return;
         pending = null;
         operations++;
@@ -304,7 +315,7 @@ final class Task extends Trace {
     /** A thread whose end was wanted has ended: it is taken and given back, which isn't among the program's operations. */
     void passed(Held wanted) {
         long before = operations;
-        breakOff(wanted);
+        keep(wanted);
         operations = before;
     }
 
@@ -363,12 +374,15 @@ final class Task extends Trace {
 
     private boolean removeLeftOut(Known lock) {
         operations++;
-        return leftOut.remove(lock);
+        if (!leftOut.remove(lock)) return false;
+        if (!leftOut.has(lock)) noteRelease(lock);
+        return true;
     }
 
     /** The task wasn't seen to take what it releases. */
     void gaveUnseen(Known lock) {
         unseenReleases++;
+        noteRelease(lock.target);
         Task other = lock.target.otherHolder(this);
         if (other == null) return;
         lock.target.removeHolder(other);
@@ -390,6 +404,7 @@ final class Task extends Trace {
     Released suspendFor(Known condition) {
         Held entry = find(condition.target, false, false);
         if (entry == null) return null;
+        beginWait(condition);
         Released last = null;
         long before = taken;
         for (int at = depth - 1; at >= 0; at--) {

@@ -33,13 +33,21 @@ abstract class Trace {
     /** What its thread is to who joins it; null if it wasn't seen to start. */
     final Known life = Known.ofThread(Thread.currentThread());
     /** What it stands at or waits for, for Provoke; null if threads aren't held back. */
-    final Stand stand = Provoke.begin(threadName());
+    final Stand stand = Provoke.begin(threadName(), life);
     /** What it took without a record; null if it never did that. */
     LeftOut leftOut;
     Known failed;
     /** How much it has taken. */
     long taken;
     volatile boolean hasDropped;
+    /** Which one it is in the order of steps, where its next step goes, and where there is no room for it. */
+    final int member = Steps.members.incrementAndGet();
+    int nextStep;
+    int endOfSteps;
+    /** The taking that comes before its next step: what it takes is noted once the thread goes on, since it has it by then. 0 if there is none. */
+    private long unnoted;
+    /** The last message that what it waits for had when the wait began. */
+    private int before;
 
     /** What the thread is called, without characters that would end a line. */
     final String threadName() {
@@ -98,9 +106,64 @@ abstract class Trace {
         settle();
         operations++;
         Held entry = push(lock, object, mode, site);
+        if (Steps.isOn) noteTaking(lock, entry, mode, site);
         if (entry == null) leaveOut(object == null ? lock : object);
         else if (!way.isTaken) see();
         return entry;
+    }
+
+    // ---- The order of steps.
+
+    /** A step of the thread, after those before it. */
+    final void note(int verb, int number, int site, int mode) {
+        if (!Steps.isOn) return;
+        noteTaken();
+        Steps.put(this, Steps.word(verb, number, site == 0 ? 0 : Site.of(site).number(), mode));
+    }
+
+    @Within
+    private void noteTaken() {
+        if (unnoted != 0) {
+            Steps.put(this, unnoted);
+            unnoted = 0;
+        }
+    }
+
+    @Within
+    final void noteTaking(Known lock, Held entry, int mode, int site) {
+        noteTaken();
+        unnoted = Steps.word(Steps.TAKES, lock.step(this), site == 0 ? 0 : Site.of(site).number(), mode);
+        if (entry != null) entry.isInSteps = true;
+    }
+
+    /** A lock is about to be released. What was taken just before it is one step with that. */
+    @Within
+    final void noteRelease(Known lock) {
+        if (!Steps.isOn || lock.step == 0) return;
+        if (unnoted != 0 && Steps.numberIn(unnoted) == lock.step) {
+            Steps.put(this, unnoted + Steps.PASSES - Steps.TAKES);
+            unnoted = 0;
+        } else {
+            note(Steps.RELEASES, lock.step, 0, 0);
+        }
+    }
+
+    /** The thread gives a message to who gets it; 0 if nothing is noted. */
+    final int giveMessage(int site) {
+        if (!Steps.isOn) return 0;
+        int message = Steps.messages.incrementAndGet();
+        note(Steps.GIVES, message, site, 0);
+        return message;
+    }
+
+    /** The thread is about to wait for a message of a monitor or a condition. */
+    final void beginWait(Known known) {
+        before = known.message;
+    }
+
+    /** It goes on: what was given last meanwhile has woken it. */
+    final void endWait(Known known, int site) {
+        if (known.message != before) note(Steps.GETS, known.message, site, 0);
     }
 
     /** Adds to what is held, and to the records. Null if there is no room for it. */
@@ -172,6 +235,7 @@ abstract class Trace {
     @Apart
     final void giveBack(Held entry) {
         operations++;
+        if (entry.isInSteps) noteRelease(entry.lock);
         if (held[depth - 1] != entry) {
             giveBackEarly(entry);
             return;
@@ -241,6 +305,7 @@ abstract class Trace {
         int code = entry.lock.key << 3 | entry.code & 7;
         if (code == entry.code) return;
         entry.code = code;
+        if (Steps.isOn && entry.isInSteps) entry.lock.step(this);
         if (entry.record >= base) records[2 * (entry.record - base)] = code;
         else Recording.rename(this, entry.record, code);
         way = entry.before.to(code);

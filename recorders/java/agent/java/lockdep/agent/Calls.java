@@ -24,7 +24,7 @@ final class Calls {
             "tryLock(J" + UNIT + ")Z", "unlock()V");
     private static final Set<String> OF_CONDITION = Set.of("await()V", "await(J" + UNIT + ")Z", "awaitNanos(J)J",
             "awaitUninterruptibly()V",
-            "awaitUntil(Ljava/util/Date;)Z");
+            "awaitUntil(Ljava/util/Date;)Z", "signal()V", "signalAll()V");
     private static final Set<String> OF_STAMPED = Set.of("writeLock()J", "readLock()J", "writeLockInterruptibly()J",
             "readLockInterruptibly()J", "tryWriteLock()J", "tryReadLock()J", "tryWriteLock(J" + UNIT + ")J",
                     "tryReadLock(J" + UNIT + ")J",
@@ -32,7 +32,7 @@ final class Calls {
                     "tryConvertToWriteLock(J)J",
             "tryConvertToReadLock(J)J", "tryConvertToOptimisticRead(J)J");
     private static final Map<String, String> VIEWS = new HashMap<>();
-    private static final Set<String> WAITS = Set.of("wait()V", "wait(J)V", "wait(JI)V");
+    private static final Set<String> WAITS = Set.of("wait()V", "wait(J)V", "wait(JI)V", "notify()V", "notifyAll()V");
     private static final Set<String> OF_THREAD = Set.of("start()V", "join()V", "join(J)V", "join(JI)V");
     private static final String PROCESS_BUILDER = "java/lang/ProcessBuilder";
     private static final String PIPELINE = "startPipeline";

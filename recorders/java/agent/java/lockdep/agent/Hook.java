@@ -9,6 +9,9 @@ enum Hook {
     MAKES("makes", "(I)V"),
     BORN("born", Hook.OF_OBJECT),
     BEGINS("begins", Hook.OF_OBJECT_AND_SITE),
+    TELLS("tells", Hook.OF_TWO_OBJECTS_AND_SITE),
+    HEARS("hears", Hook.OF_TWO_OBJECTS_AND_SITE),
+    HEARS_IF_TRUE("hears", "(ZLjava/lang/Object;I)V"),
     STARTS("starts", Hook.OF_OBJECT),
     STARTS_IN("starts", "(Ljava/lang/Object;Ljava/lang/Object;)V"),
     LOCKS("locks", Hook.OF_LOCK_AND_SITE),
@@ -20,6 +23,7 @@ enum Hook {
     static final int COUNT = values().length;
     private static final String OF_OBJECT = "(Ljava/lang/Object;)V";
     private static final String OF_OBJECT_AND_SITE = "(Ljava/lang/Object;I)V";
+    private static final String OF_TWO_OBJECTS_AND_SITE = "(Ljava/lang/Object;Ljava/lang/Object;I)V";
     private static final String LOCK = "Ljava/util/concurrent/locks/Lock;";
     private static final String CONDITION = "Ljava/util/concurrent/locks/Condition;";
     private static final String OF_LOCK_AND_SITE = "(" + LOCK + "I)V";

@@ -36,6 +36,8 @@ final class MethodRewriter {
     private Bytes written;
     /** Whether it enters its monitor by instructions. */
     private boolean isByItself;
+    /** What it does by which threads tell one another something; null if nothing. */
+    private final Telling telling;
     private int line;
     /** The instruction that is looked at. */
     private int here;
@@ -63,6 +65,7 @@ final class MethodRewriter {
         this.constants = constants;
         name = method.name();
         descriptor = method.descriptor();
+        telling = wanted.tellings.get(name + descriptor);
         code = new Code(type, method, constants);
         lines = new Lines(type, method);
     }
@@ -74,6 +77,7 @@ final class MethodRewriter {
         if (method.isSynchronized() && !new Frames(type, method, descriptor).keepThis())
                 throw new IllegalStateException("its method " + name + " changes `this`");
         isByItself = method.isSynchronized() && isToEnterByItself();
+        if (telling != null && !telling.isAtEnd) tellAtBeginning();
         passAll();
         if (hasMonitor && (hasNew || method.isConstructor) && new Unmade(type, method).mayBeLocked())
                 throw new IllegalStateException("its method " + name + " locks an object that isn't made yet");
@@ -125,6 +129,7 @@ final class MethodRewriter {
         boolean isReturn = opcode >= Opcodes.IRETURN && opcode <= Opcodes.RETURN;
         if (Code.isJump(opcode)) code.addJump(at);
         else if (opcode >= Opcodes.INVOKEVIRTUAL) rewrite(opcode, at, next);
+        else if (isReturn && telling != null && telling.isAtEnd) tellAtEnd(before(at));
         else if (isReturn && method.isSynchronized()) exits(before(at));
     }
 
@@ -511,6 +516,21 @@ final class MethodRewriter {
             OnLine.note(source, name, descriptor, each.line, each.ordinal, at);
         }
         for (int at : unlined) OnLine.notePlace(source, name, descriptor, code.placeOf(at), at - method.start);
+    }
+
+    // ---- Methods by which threads tell one another something.
+
+    private void tellAtBeginning() {
+        isChanged = true;
+        line = lines.first;
+        here = method.start;
+        call(site(behind(method.start).put(Opcodes.ALOAD_0).put(telling.about)), telling.hook);
+    }
+
+    /** What the method returns, if that matters, is on the stack. */
+    private void tellAtEnd(Bytes end) {
+        boolean isOfResult = telling.about == Opcodes.SWAP || telling.hook == Hook.HEARS_IF_TRUE;
+        call(site((isOfResult ? end.put(Opcodes.DUP) : end).put(Opcodes.ALOAD_0).put(telling.about)), telling.hook);
     }
 
     // ---- Synchronized methods.

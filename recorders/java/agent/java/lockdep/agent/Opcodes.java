@@ -5,6 +5,7 @@ package java.lockdep.agent;
  * specification. (Each of the instructions whose name ends with `_0` has four such short forms.)
  */
 final class Opcodes {
+    static final int NOP = 0;
     static final int ACONST_NULL = 1;
     static final int SIPUSH = 17;
     static final int LDC = 18;

@@ -109,7 +109,7 @@ final class Rewriter implements ClassFileTransformer {
      */
     boolean isAsked(Class<?> type) {
         boolean isOfProgram = isOfProgram(type.getClassLoader());
-        if (!isOfProgram && jdk.length == 0) return false;
+        if (!isOfProgram && jdk.length == 0 && !type.getName().startsWith("java.util.concurrent.")) return false;
         if (type.isArray() || type.isPrimitive() || type.getName().indexOf('/') >= 0) return false;
         String name = type.getName().replace('.', '/');
         if (isOfJdk(type.getModule(), type.getClassLoader(), name)) return isAsked(name);
@@ -121,6 +121,11 @@ final class Rewriter implements ClassFileTransformer {
     }
 
     private boolean isAsked(String name) {
+        return hasLocksAsked(name) || !Telling.of(name).isEmpty();
+    }
+
+    /** Whether a class of the JDK is one whose locks were requested. */
+    private boolean hasLocksAsked(String name) {
         return begins(name, jdk) && (!begins(name, NEVER) || begins(name, ALWAYS));
     }
 
@@ -155,7 +160,7 @@ final class Rewriter implements ClassFileTransformer {
             Locking locking = new Locking(type);
             hierarchy.add(type, locking, isHidden);
             boolean isOfProgram = !isOfJdk && isOfProgram(loader);
-            Wanted wanted = new Wanted(type, hierarchy, locking, isOfProgram, begins(Locking.BUFFER, jdk));
+            Wanted wanted = new Wanted(type, hierarchy, locking, isOfProgram, begins(Locking.BUFFER, jdk), isOfJdk && !hasLocksAsked(type.name));
             if (!wanted.hasAny()) return null;
             if (!hierarchy.findsHooks()) throw new IllegalStateException("its class loader doesn't find java.lockdep.Hooks");
             return rewrite(type, source, wanted);

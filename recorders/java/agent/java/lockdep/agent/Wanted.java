@@ -1,5 +1,6 @@
 package java.lockdep.agent;
 
+import java.util.Map;
 import java.util.Set;
 
 /** Which methods of a class may have something to rewrite, and what else rewriting them has to know. */
@@ -23,23 +24,33 @@ final class Wanted {
     /** Whether string buffers are recorded. Otherwise they aren't noted, since there are too many of them. */
     private final boolean hasBuffers;
     private final ClassFile type;
+    /** What its methods do by which threads tell one another something. */
+    final Map<String, Telling> tellings;
     /** The constants of the class that make an instruction with them one that may be rewritten. */
     private final boolean[] constants;
 
-    Wanted(ClassFile type, Hierarchy hierarchy, Locking locking, boolean tells, boolean hasBuffers) {
+    Wanted(ClassFile type, Hierarchy hierarchy, Locking locking, boolean tells, boolean hasBuffers, boolean isOnlyTold) {
         this.type = type;
+        tellings = Telling.of(type.name);
         this.tells = tells;
         this.hierarchy = hierarchy;
         this.locking = locking;
         this.hasBuffers = hasBuffers;
         constants = new boolean[type.countOfConstants()];
+        if (!isOnlyTold) lookAtConstants();
+        for (ClassFile.Method method : type.methods) {
+            if (!isOnlyTold) look(method);
+            method.isWanted |= tellings.containsKey(method.name() + method.descriptor());
+        }
+    }
+
+    private void lookAtConstants() {
         boolean hasReference = false;
         for (int each = 1; each < constants.length; each++) {
             constants[each] = mayMatter(each);
             hasReference |= type.kind(each) == ClassFile.HANDLE && Calls.mayBeReference(type, each);
         }
         if (hasReference) addDynamicCalls();
-        for (ClassFile.Method method : type.methods) look(method);
     }
 
     /** Whether any method may be rewritten. */
