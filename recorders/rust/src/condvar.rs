@@ -1,13 +1,17 @@
 //! `Condvar`: a wait is a release of the mutex and an acquisition.
 use crate::mutex::MutexGuard;
+use crate::recording::{get_message, give_message};
 use std::fmt;
 use std::panic::Location;
+use std::sync::atomic::{AtomicU32, Ordering};
 use std::sync::{LockResult, PoisonError, WaitTimeoutResult};
 use std::time::{Duration, Instant};
 
 /// `std::sync::Condvar`, which takes the guards of this crate.
 pub struct Condvar {
     real: std::sync::Condvar,
+    /// The last message that who waits for it was given.
+    message: AtomicU32,
 }
 
 type Waited<'a, T> = LockResult<(MutexGuard<'a, T>, WaitTimeoutResult)>;
@@ -15,14 +19,17 @@ type Waited<'a, T> = LockResult<(MutexGuard<'a, T>, WaitTimeoutResult)>;
 impl Condvar {
     #[inline]
     pub const fn new() -> Condvar {
-        Condvar { real: std::sync::Condvar::new() }
+        Condvar { real: std::sync::Condvar::new(), message: AtomicU32::new(0) }
     }
 
     #[track_caller]
     pub fn wait<'a, T>(&self, guard: MutexGuard<'a, T>) -> LockResult<MutexGuard<'a, T>> {
         let place = Location::caller();
+        let before = self.message.load(Ordering::Relaxed);
         let (real, mark) = guard.given_back();
-        match self.real.wait(real) {
+        let waited = self.real.wait(real);
+        self.woken(before, place);
+        match waited {
             Ok(real) => Ok(MutexGuard::taken_again(real, mark, place)),
             Err(poison) => Err(PoisonError::new(MutexGuard::taken_again(poison.into_inner(), mark, place))),
         }
@@ -56,8 +63,13 @@ impl Condvar {
     #[track_caller]
     pub fn wait_timeout<'a, T>(&self, guard: MutexGuard<'a, T>, dur: Duration) -> Waited<'a, T> {
         let place = Location::caller();
+        let before = self.message.load(Ordering::Relaxed);
         let (real, mark) = guard.given_back();
-        match self.real.wait_timeout(real, dur) {
+        let waited = self.real.wait_timeout(real, dur);
+        if waited.as_ref().map_or_else(|poison| !poison.get_ref().1.timed_out(), |(_, result)| !result.timed_out()) {
+            self.woken(before, place);
+        }
+        match waited {
             Ok((real, result)) => Ok((MutexGuard::taken_again(real, mark, place), result)),
             Err(poison) => {
                 let (real, result) = poison.into_inner();
@@ -83,13 +95,25 @@ impl Condvar {
     }
 
     #[inline]
+    #[track_caller]
     pub fn notify_one(&self) {
+        self.message.store(give_message(Location::caller()), Ordering::Relaxed);
         self.real.notify_one();
     }
 
     #[inline]
+    #[track_caller]
     pub fn notify_all(&self) {
+        self.message.store(give_message(Location::caller()), Ordering::Relaxed);
         self.real.notify_all();
+    }
+
+    /// The running thread goes on: what was given last since its wait began has woken it.
+    fn woken(&self, before: u32, place: &'static Location<'static>) {
+        let message = self.message.load(Ordering::Relaxed);
+        if message != before {
+            get_message(message, place);
+        }
     }
 }
 

@@ -1,6 +1,6 @@
 //! `Once`, `OnceLock` and `LazyLock`: what may have to wait for an initialiser is an acquisition, held until the call returns. One that
 //! no longer waits for anybody is recorded only if other locks are held, since otherwise it gives no order.
-use crate::recording::{gave, holds_something, took, Mark, Mode, Token};
+use crate::recording::{gave, holds_something, took_unordered, Mark, Token};
 use std::fmt;
 use std::ops::{Deref, DerefMut};
 use std::panic::Location;
@@ -21,7 +21,7 @@ fn in_turn<R>(mark: &Mark, place: &'static Location<'static>, is_complete: bool,
     if is_complete && !holds_something() {
         return work();
     }
-    let _turn = Turn(took(mark, Mode::Write, place));
+    let _turn = Turn(took_unordered(mark, place));
     work()
 }
 

@@ -1,11 +1,11 @@
 //! Threads that are joined. To who joins it, a thread is a lock that it has from its start to its end, and that is taken and given back
 //! at once. What of this can matter is found out when the traces are made (tool/lockdep/finish/joins.py).
 use super::names::Mark;
-use super::task::{begin_join, end_with_thread, has_joined, joins, may_join, Mode, Pending};
-use super::tries_a_little;
+use super::task::{begin_join, end_with_thread, give_message, has_joined, joins, may_join, note_join, Mode, Pending};
+use super::{steps, tries_a_little};
 use std::cell::Cell;
 use std::panic::Location;
-use std::sync::atomic::{AtomicBool, Ordering};
+use std::sync::atomic::{AtomicBool, AtomicU32, Ordering};
 use std::sync::{Arc, Condvar, Mutex, MutexGuard, PoisonError};
 
 /// How far a thread is: its function runs or has returned, or the destructors of its thread-local values have run too. A join waits for
@@ -22,6 +22,9 @@ pub struct Life {
     mark: Mark,
     process: u32,
     has_begun: AtomicBool,
+    /// The message that it is started by, and which one it is in the order of steps, once it has begun.
+    message: u32,
+    member: AtomicU32,
     stage: Mutex<Stage>,
     change: Condvar,
 }
@@ -42,15 +45,22 @@ impl Life {
             mark: Mark::of_thread(place),
             process: std::process::id(),
             has_begun: AtomicBool::new(false),
+            message: give_message(place),
+            member: AtomicU32::new(0),
             stage: Mutex::new(Stage::Runs),
             change: Condvar::new(),
         }
     }
 
     /// The thread takes its first lock. Its number as a lock, or 0 if there is no memory for it.
-    pub fn begins(&self) -> u32 {
+    pub fn begins(&self, member: u32) -> u32 {
+        self.member.store(member, Ordering::Relaxed);
         self.has_begun.store(true, Ordering::Release);
         self.mark.key(true)
+    }
+
+    pub fn message(&self) -> u32 {
+        self.message
     }
 
     /// A number that all threads have that are started in one place.
@@ -122,8 +132,12 @@ pub fn joined(life: &Life, place: &'static Location<'static>) {
 /// The running thread waits until another one is at a stage. One that is never recorded takes no lock, so it doesn't matter who waits for
 /// it.
 fn waits_until(life: &Life, stage: Stage, place: &'static Location<'static>) {
-    if !may_join() {
+    if !may_join() && !steps::is_on() {
         return;
+    }
+    if !may_join() {
+        life.wait_until(stage);
+        return note_join(life.member.load(Ordering::Relaxed), place);
     }
     let is_there = || (life.stage() >= stage).then_some(());
     let mut pending: Option<Pending> = None;
@@ -138,6 +152,7 @@ fn waits_until(life: &Life, stage: Stage, place: &'static Location<'static>) {
         Some(pending) => has_joined(pending),
         None => joins(&life.mark, Mode::Write, place),
     }
+    note_join(life.member.load(Ordering::Relaxed), place);
 }
 
 /// Threads that the end of a scope waits for.
@@ -157,10 +172,12 @@ impl Lives {
     pub fn all_joined(&self, place: &'static Location<'static>) {
         loop {
             let lives = std::mem::take(&mut *self.0.lock().unwrap_or_else(PoisonError::into_inner));
-            if lives.is_empty() || !may_join() {
+            if lives.is_empty() {
                 return;
             }
-            lives.iter().filter(|life| life.stage() == Stage::Runs).for_each(|life| joins(&life.mark, Mode::Write, place));
+            if may_join() {
+                lives.iter().filter(|life| life.stage() == Stage::Runs).for_each(|life| joins(&life.mark, Mode::Write, place));
+            }
             lives.iter().for_each(|life| waits_until(life, Stage::Returned, place));
         }
     }

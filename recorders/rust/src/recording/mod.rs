@@ -2,12 +2,13 @@
 mod lives;
 mod names;
 mod process;
+mod steps;
 mod store;
 mod task;
 
 pub use lives::{joined, Life, Lives, Running};
 pub use names::Mark;
-pub use task::{begin_pending, failed_try, gave, holds_something, took, Mode, Token};
+pub use task::{begin_pending, failed_try, gave, get_message, give_message, holds_something, took, took_unordered, Mode, Token};
 
 /// How often a lock is tried for before the thread waits for it, which has to be written: first at once, and then after other threads
 /// had a turn.

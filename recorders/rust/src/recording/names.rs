@@ -5,12 +5,15 @@ use std::fmt::Write;
 use std::panic::Location;
 use std::sync::atomic::{AtomicU32, Ordering};
 
-/// What is noted about a lock, in the lock. It may be moved with the lock, and is dropped with it.
+/// What is noted about a lock, in the lock. It may be moved with the lock, and is dropped with it. `step` is its number in the order of steps, and `told`
+/// the key that it has there.
 pub struct Mark {
     place: &'static Location<'static>,
     type_name: fn() -> &'static str,
     kind: Kind,
     key: AtomicU32,
+    step: AtomicU32,
+    told: AtomicU32,
 }
 
 /// What a lock is: one that is made by a call, or by `Default`, or a thread, which is one to who joins it.
@@ -34,17 +37,34 @@ const THREAD: &str = "thread:";
 impl Mark {
     /// A lock that is made by a call.
     pub const fn new(place: &'static Location<'static>, type_name: fn() -> &'static str) -> Mark {
-        Mark { place, type_name, kind: Kind::Made, key: AtomicU32::new(0) }
+        Mark::of(place, type_name, Kind::Made)
     }
 
     /// A lock that is made by `Default`: all fields of a structure that derives it have one place.
     pub const fn of_default(place: &'static Location<'static>, type_name: fn() -> &'static str) -> Mark {
-        Mark { place, type_name, kind: Kind::Default, key: AtomicU32::new(0) }
+        Mark::of(place, type_name, Kind::Default)
     }
 
     /// A thread that is started.
     pub const fn of_thread(place: &'static Location<'static>) -> Mark {
-        Mark { place, type_name: || "", kind: Kind::Thread, key: AtomicU32::new(0) }
+        Mark::of(place, || "", Kind::Thread)
+    }
+
+    const fn of(place: &'static Location<'static>, type_name: fn() -> &'static str, kind: Kind) -> Mark {
+        Mark { place, type_name, kind, key: AtomicU32::new(0), step: AtomicU32::new(0), told: AtomicU32::new(0) }
+    }
+
+    /// Its number in the order of steps, and whether it is to be told which key that has. A thread is none of the locks there.
+    #[inline]
+    pub fn in_steps(&self, key: u32, new: impl FnOnce() -> u32) -> (u32, bool) {
+        if self.told.load(Ordering::Acquire) == key {
+            return (self.step.load(Ordering::Relaxed), false);
+        }
+        if self.kind != Kind::Thread && self.step.load(Ordering::Relaxed) == 0 {
+            let _ = self.step.compare_exchange(0, new(), Ordering::Relaxed, Ordering::Relaxed);
+        }
+        self.told.store(key, Ordering::Release);
+        (self.step.load(Ordering::Relaxed), true)
     }
 
     /// A number that is the same for all locks of its class.

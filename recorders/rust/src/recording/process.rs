@@ -4,6 +4,7 @@
 //!
 //! A file is opened for each write, so that the program has no open file that it doesn't know about.
 use super::names::NAMES;
+use super::steps;
 use super::store::{List, Shared, Table, Text};
 use super::task::{end_with_thread, Task};
 use std::ffi::OsStr;
@@ -176,6 +177,7 @@ impl Process {
         let folder = folder.unwrap_or_else(|| "lockdep-traces".into());
         let Ok(folder) = std::path::absolute(folder) else { return false };
         self.folder.add(folder.as_os_str().as_bytes());
+        steps::begin();
         if let Ok(program) = std::env::current_exe() {
             self.program.add(program.as_os_str().as_bytes());
         }
@@ -343,6 +345,13 @@ fn begin_file() {
 /// Adds lines to a file that several threads write.
 fn append(path: &Text, lines: &Text) -> bool {
     OpenOptions::new().append(true).open(path_of(path)).is_ok_and(|mut file| file.write_all(&lines.bytes).is_ok())
+}
+
+/// A further file of the process, which may be mapped, and to whose end more is written. It is made if it isn't there.
+pub fn further(rest: &str) -> Option<File> {
+    let path = PROCESS.with(|process| process.path(format_args!("{rest}")))?;
+    drop(make(&path));
+    OpenOptions::new().read(true).append(true).open(path_of(&path)).ok()
 }
 
 /// The file of a thread.

@@ -6,6 +6,7 @@
 use super::lives::{end_own_life, own_life, Life};
 use super::names::Mark;
 use super::process::{self, Trace, COUNTS, PROCESS};
+use super::steps;
 use super::store::{mixed, List, Table};
 use std::alloc::{GlobalAlloc, Layout, System};
 use std::cell::Cell;
@@ -15,7 +16,9 @@ use std::sync::atomic::{compiler_fence, AtomicBool, AtomicU64, Ordering};
 mod calls;
 mod writing;
 
-pub use calls::{begin_join, begin_pending, failed_try, gave, has_joined, holds_something, joins, may_join, took, Pending};
+pub use calls::{
+    begin_join, begin_pending, failed_try, gave, get_message, give_message, has_joined, holds_something, joins, may_join, note_join, took, took_unordered, Pending,
+};
 
 /// How a lock is taken.
 #[derive(Clone, Copy, PartialEq)]
@@ -27,22 +30,32 @@ pub enum Mode {
 }
 
 const MODE_COUNT: u32 = 4;
+
+impl Mode {
+    /// The mode as the files have it.
+    fn in_files(self) -> u32 {
+        writing::MODES[self as usize]
+    }
+}
+
 const MOST_HELD: usize = 48;
 const MOST_EVENTS: u64 = 1_000_000 - 2 * MOST_HELD as u64;
 
 /// After how many operations of a thread its counts are written.
 const OPERATIONS_A_WRITING: u64 = 1 << 16;
 
-type Place = &'static Location<'static>;
+pub type Place = &'static Location<'static>;
 
-/// An acquisition, as its guard keeps it: the thread, and which of its acquisitions. One that isn't in the trace is 0 of thread 0.
+/// An acquisition, as its guard keeps it: the thread, and which of its acquisitions; and the lock's number in the order of steps. One that isn't in the
+/// trace is 0 of thread 0.
 #[derive(Clone, Copy, PartialEq)]
 pub struct Token {
     task: u32,
     number: u32,
+    lock: u32,
 }
 
-const LEFT_OUT: Token = Token { task: 0, number: 0 };
+const LEFT_OUT: Token = Token { task: 0, number: 0, lock: 0 };
 
 /// A record: MODE_COUNT * a lock + a mode, and where the lock is taken, or nowhere if it is released.
 #[derive(Clone, Copy)]
@@ -59,6 +72,7 @@ const NOWHERE: u64 = u64::MAX;
 struct Held {
     number: u32,
     code: u32,
+    lock: u32,
     place: Place,
     start: u64,
     offset: u64,
@@ -123,6 +137,8 @@ pub struct Task {
     failed: *const Mark,
     trace: Option<Trace>,
     told: List<Record>,
+    pub own: steps::Own,
+    places: Table,
 }
 
 thread_local! {
@@ -257,7 +273,7 @@ fn end_here() {
 
 impl Task {
     fn new() -> Task {
-        let nothing = Held { number: 0, code: 0, place: Location::caller(), start: 0, offset: NOWHERE, before: 0 };
+        let nothing = Held { number: 0, code: 0, lock: 0, place: Location::caller(), start: 0, offset: NOWHERE, before: 0 };
         Task {
             next: std::ptr::null_mut(),
             counts: [const { AtomicU64::new(0) }; COUNTS],
@@ -280,6 +296,8 @@ impl Task {
             failed: std::ptr::null(),
             trace: None,
             told: List::new(),
+            own: steps::Own::new(),
+            places: Table::new(),
         }
     }
 
@@ -313,8 +331,9 @@ impl Task {
     /// The thread has what it is itself to its end.
     fn begin_life(&mut self, life: *const Life) {
         let Some(life) = (unsafe { life.as_ref() }) else { return };
-        self.life = life.begins();
+        self.life = life.begins(self.own.member);
         self.ways = Ways::new(life.class());
+        self.note(steps::BEGINS, life.message(), None, 0);
     }
 
     fn hold_by_waiting(&mut self, mark: &Mark, mode: Mode, place: Place) -> Token {
@@ -327,25 +346,35 @@ impl Task {
 
     #[inline]
     fn hold(&mut self, mark: &Mark, mode: Mode, place: Place, waits: bool) -> Token {
+        let key = if self.is_over { 0 } else { mark.key(self.count > 0) };
+        let lock = self.number_of_lock(mark, key);
+        if !waits {
+            self.note(steps::TAKES, lock, Some(place), mode.in_files());
+        }
+        self.hold_key(key, lock, mode, place, waits)
+    }
+
+    #[inline]
+    fn hold_key(&mut self, key: u32, lock: u32, mode: Mode, place: Place, waits: bool) -> Token {
         self.failed = std::ptr::null();
         if self.is_over || self.waits || self.count >= MOST_HELD || self.here() >= MOST_EVENTS {
-            return self.leave_out();
+            return Token { lock, ..self.leave_out() };
         }
-        let code = MODE_COUNT * mark.key(self.count > 0) + mode as u32;
+        let code = MODE_COUNT * key + mode as u32;
         let way = if code < MODE_COUNT { None } else { self.ways.to(self.way, code) };
         let Some(way) = way.filter(|_| self.records.push(Record { code, place: Some(place) })) else {
             return self.give_up();
         };
         self.numbers = self.numbers.wrapping_add(1).max(1);
         let start = self.here() - 1;
-        self.held[self.count] = Held { number: self.numbers, code, place, start, offset: NOWHERE, before: self.way };
+        self.held[self.count] = Held { number: self.numbers, code, lock, place, start, offset: NOWHERE, before: self.way };
         self.count += 1;
         self.way = way;
         self.waits = waits;
         if !self.ways.all[way as usize].is_taken {
             self.see(way);
         }
-        Token { task: self.serial, number: self.numbers }
+        Token { task: self.serial, number: self.numbers, lock }
     }
 
     /// An acquisition isn't in the trace, so its release isn't either.

@@ -2,6 +2,7 @@
 use super::super::lives::own_life;
 use super::super::names::Mark;
 use super::super::process;
+use super::super::steps;
 use super::{end_here, with_task, Mode, Place, Token, HERE, LEFT_OUT};
 
 /// The running thread has taken a lock.
@@ -14,17 +15,49 @@ pub fn took(mark: &Mark, mode: Mode, place: Place) -> Token {
     .unwrap_or(LEFT_OUT)
 }
 
+/// The same of what may run an initialiser, or wait for one that runs: which of these it does, and when, isn't known, so the order of steps hasn't got it.
+pub fn took_unordered(mark: &Mark, place: Place) -> Token {
+    with_task(|task| {
+        task.count_operation();
+        let key = mark.key(task.count > 0);
+        task.hold_key(key, 0, Mode::Write, place, false)
+    })
+    .unwrap_or(LEFT_OUT)
+}
+
 /// The running thread is about to release a lock.
 #[inline]
 pub fn gave(token: Token) {
     if token != LEFT_OUT {
         let is_late = with_task(|task| {
-            task.give(token);
+            task.note(steps::RELEASES, token.lock, None, 0);
+            if token.task != 0 {
+                task.give(token);
+            }
             task.is_late && task.count == 0
         });
         if is_late == Some(true) {
             end_here();
         }
+    }
+}
+
+/// The running thread gives a message; 0 if nothing is noted.
+pub fn give_message(place: Place) -> u32 {
+    if steps::is_on() { with_task(|task| task.give_message(place)).unwrap_or(0) } else { 0 }
+}
+
+/// The running thread gets a message.
+pub fn get_message(message: u32, place: Place) {
+    if steps::is_on() && message != 0 {
+        with_task(|task| task.note(steps::GETS, message, Some(place), 0));
+    }
+}
+
+/// The running thread has waited for the end of another one.
+pub fn note_join(member: u32, place: Place) {
+    if steps::is_on() && member != 0 {
+        with_task(|task| task.note(steps::JOINS, member, Some(place), 0));
     }
 }
 

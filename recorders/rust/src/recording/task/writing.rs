@@ -2,11 +2,12 @@
 use super::super::names::{Names, NAMES};
 use super::super::process::{self, Trace};
 use super::super::store::Text;
-use super::{Record, Task, MODE_COUNT, NOWHERE};
+use super::{Held, Place, Record, Task, MODE_COUNT, NOWHERE};
+use super::super::steps;
 use std::fmt::Write;
 
 /// The modes as the file has them.
-const MODES: [u32; MODE_COUNT as usize] = [0, 3, 1, 4];
+pub(super) const MODES: [u32; MODE_COUNT as usize] = [0, 3, 1, 4];
 const RELEASE: u32 = 2;
 const MOST_NAME: usize = 64;
 
@@ -29,6 +30,7 @@ impl Task {
         let mut lines = Lines { text: Text::new(), told: Text::new(), number };
         if length == 0 {
             lines.add_name(); // (which the library may need the program's allocator for)
+            lines.add_member(self.own.member);
         }
         let mut begin = 0;
         let is_formed = NAMES.with(|names| {
@@ -57,6 +59,31 @@ impl Task {
         self.base += self.records.len() as u64;
         self.records.truncate(0);
         self.note_told();
+    }
+
+    /// The number of a place in the order of steps. 0 if there is no memory for it.
+    #[inline]
+    pub fn number_of(&mut self, place: Place) -> u32 {
+        let at = std::ptr::from_ref(place) as u64;
+        self.places.get(at).unwrap_or_else(|| {
+            let mut told = Text::new();
+            let number = NAMES.with(|names| names.tell_place(&mut told, place)).unwrap_or(0);
+            if !told.bytes.is_empty() {
+                process::tell(&told);
+            }
+            self.places.set(at, number);
+            number
+        })
+    }
+
+    /// Writes the lock of a key that the order of steps has.
+    #[cold]
+    pub fn tell_key(&mut self, key: u32) {
+        let mut told = Text::new();
+        NAMES.with(|names| names.tell(&mut told, key));
+        if !told.bytes.is_empty() {
+            process::tell(&told);
+        }
     }
 
     /// Notes where in the file a record begins, for the locks whose stretches begin with it.
@@ -88,6 +115,9 @@ impl Task {
     /// The thread got what it waited for: that is written if the wait was.
     pub(super) fn end_waiting(&mut self) {
         self.waits = false;
+        if let Some(&Held { lock, code, place, .. }) = self.held[..self.count].last() {
+            self.note(steps::TAKES, lock, Some(place), MODES[(code % MODE_COUNT) as usize]);
+        }
         let is_told = self.count > 0 && self.held[self.count - 1].start < self.base && !self.is_over;
         if is_told && process::is_on() && self.pid == std::process::id() && !self.trace.as_mut().is_some_and(|trace| say(trace, "G")) {
             self.end_early();
@@ -147,6 +177,11 @@ impl Lines {
             self.text.add(&[if byte.is_ascii_control() { b'?' } else { byte }]);
         }
         self.text.add(b"\n");
+    }
+
+    /// Adds which one the thread is in the order of steps.
+    fn add_member(&mut self, member: u32) {
+        let _ = writeln!(self.text, "J {} {member}", self.number);
     }
 
     /// Adds what a thread that may be joined is itself.
