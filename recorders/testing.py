@@ -14,10 +14,30 @@ name_of_recorder = "recorders/" + os.path.basename(script)
 top = os.path.dirname(os.path.dirname(script))
 lockdep = os.environ.get("LOCKDEP", os.path.join(top, "lockdep"))
 has_compiler = shutil.which(os.environ.get("CC", "cc")) is not None
-LIMIT = 300  # of one program with its recording, in seconds: long enough beside others that use all processors
+LIMIT = 600  # of one program with its recording, in seconds: long enough beside others that use all processors
 counts = {True: 0, False: 0}
 # A shell that starts a test in the background lets it ignore SIGINT, and so all that it starts.
 signal.signal(signal.SIGINT, signal.default_int_handler)
+
+
+# What is said behind verdicts.
+APART = "starts, joins and messages keep these steps apart in this recording"
+BY_JOIN = "these recorded steps, in another order, stand still, unless the thread is joined only when it has said that it is done"
+BROKEN_OFF = "a wait for a lock of its classes was broken off: the order of steps has no wait that didn't end"
+NOT_OF_C = "the order of steps has none of C libraries that the program loads"
+
+
+def kept_apart(who):
+    """What is said behind the locks of a finding whose steps are kept apart, by so many threads."""
+    return "kept apart, by %s: %s" % (who, APART)
+
+
+def by_join(who):
+    return "possible by a join, by %s: %s" % (who, BY_JOIN)
+
+
+def broken_off(who):
+    return "not known, by %s: %s" % (who, BROKEN_OFF)
 
 
 def same(what, wanted, got):
@@ -156,6 +176,15 @@ def check(name, folder=None):
     return done
 
 
+def check_history(name, folder):
+    """Whether a recording's history is accepted by the checker, and no lock is left out of it, whatever its threads wait for."""
+    made = Run([lockdep, "record", "--histories", folder])
+    same(name + ": the history is made", 0, made.status)
+    judged = Run([lockdep, "schedule"] + made.out.split())
+    same(name + ": the history is accepted", (True, ""), (judged.status in (0, 1), judged.said))
+    same(name + ": no lock is left out of it", [], [entry for entry in os.listdir(os.path.join(folder, "history")) if entry.endswith(".left-out")])
+
+
 def summary(folder, name):
     found = re.search(r"^%s (\d+)$" % name, contents(os.path.join(folder, "SUMMARY")), re.M)
     return int(found.group(1)) if found else 0
@@ -199,7 +228,7 @@ def single_locks(folder):
 
 def explained(folder):
     """The output of `confirm` and `where`, which need a C compiler."""
-    confirmed = subprocess.run([os.path.join(top, "recorders/pthread/confirm"), folder], stdout=subprocess.PIPE,
+    confirmed = subprocess.run([os.path.join(top, "recorders/pthread/confirm"), "--verbose", folder], stdout=subprocess.PIPE,
             stderr=subprocess.PIPE,
                                timeout=LIMIT, env=dict(os.environ, LOCKDEP=lockdep))
     done = subprocess.run([os.path.join(top, "recorders/pthread/where"), folder], input=confirmed.stdout,
