@@ -6,32 +6,39 @@ classes; that is so in all recordings only if it is in each part of them, so the
 trace can't say so much, or too many keys lead to one another, since then half of those that a part has left are folded.)"""
 from __future__ import annotations
 
+import json
 import os
-import pickle
+import signal
 import subprocess
 import tempfile
 import zlib
-from typing import IO
+from typing import IO, Iterable
 
+from ..base.files import opened
 from ..base.saying import Refusal
+from ..base.words import bytes_of, reason_of, text_of
 from ..program.checker import REFUSED, Answer
-from .gathered import Listed
-from .names import is_rest, keys_in, name_of_key, quoted, rest_of, with_names
-from .orders import Number, Seen, Table, merge_tables
+from .gathered import FOLDED, FOLDED_LOCKS, HEADER, MOST_EVENTS, Listed, recordings_in, text_of_recordings
+from .kept_places import Lines, lines_in, merged_lines, text_of_lines
+from .names import TIMED_ENTRY, at_level, class_of, is_rest, keys_in, name_of_key, quoted, rest_of, with_names
+from .orders import Number, Seen, Table, lots_in, merge_tables, number_of_words, table_in, text_of_table, words_of_number
 
 MOST_KEYS = 8192
-MOST_EVENTS = 1_000_000  # of a trace
 MOST_TRACES = 4096  # of a run
-HEADER = b"lockdep,1\n"
+MOST_AT_ONCE = 1 << 26  # bytes of condensed traces that are merged at once, unless two have more
+MOST_OF_RESULT = 1 << 30  # bytes that the result of a task has
 TOO_LONG = b"E3 TooLong"
 TOO_MANY, TOO_TANGLED = b"T6 TooManyKeys", b"M1 TooTangled"
 TOO_MUCH = {TOO_MANY: "more than 8,192 lock classes", TOO_LONG: "more orders than one trace can say",
             TOO_TANGLED: "more than 256 lock classes that lead to one another"}
 
 
-FOLDED = b"folded-for "  # begins what is said of why locks were folded
 TOO_LONG_NAME = b"long-names"
 WHY_FOLDED = {TOO_MANY: b"keys", TOO_LONG: b"events", TOO_TANGLED: b"tangles"}
+
+
+class Lacking(Exception):
+    """What a task can't be done without, and this machine lacks: another one may have it. It is no fault of a recording."""
 
 
 class Program:
@@ -45,9 +52,9 @@ class Program:
         try:
             done = subprocess.run(words, stdin=subprocess.DEVNULL, stdout=subprocess.PIPE, stderr=subprocess.PIPE, pass_fds=descriptors)
         except OSError as error:
-            raise Refusal("%s can't be run: %s" % (self.path, error.strerror), 3)
+            raise Lacking("%s can't be run: %s" % (self.path, reason_of(error)))
         if done.returncode < 0:
-            raise Refusal("the checker was ended by signal %d" % -done.returncode)
+            raise Lacking("the checker was ended by %s" % signal.Signals(-done.returncode).name)
         return Answer(done.stdout, done.returncode, done.stderr)
 
     def condensed(self, files: list[str]) -> Answer:
@@ -58,14 +65,36 @@ class Program:
         refused = next((answer for answer in answers if answer.status >= REFUSED), None)
         return refused or self.condensed_texts([answer.output for answer in answers])
 
+    def condensed_of(self, traces: list[str]) -> tuple[Answer, bool]:
+        """The same of a recording's traces, and whether by their classes, since their single locks are too much."""
+        answer = self.condensed(traces)
+        if not any(code in answer.said for code in TOO_MUCH):
+            return answer, False
+        with tempfile.TemporaryDirectory(prefix="lockdep-") as room:
+            made = by_classes(traces, room)
+            answer = self.condensed(made)
+        for trace, path in zip(traces, made):
+            answer.said = answer.said.replace(bytes_of(path), bytes_of(trace))
+        return answer, True
+
     def condensed_texts(self, texts: list[bytes]) -> Answer:
         """The same of traces that are no files. Those that were condensed can be joined: at the end nothing is held, and all is as at the beginning."""
-        files = [file_with(group) for group in joined(texts)]
+        files = [file_with(group) for group in grouped(texts)]
         try:
             return self.ask(["/dev/fd/%d" % file.fileno() for file in files], tuple(file.fileno() for file in files))
         finally:
             for file in files:
                 file.close()
+
+
+def by_classes(traces: list[str], room: str) -> list[str]:
+    """The traces without the numbers of their locks, as files of the room: those of classes, with the same records."""
+    made: list[str] = []
+    for trace in traces:
+        with opened(trace) as given, tempfile.NamedTemporaryFile(dir=room, delete=False) as file:
+            file.writelines(at_level(line, class_of) for line in given)
+        made.append(file.name)
+    return made
 
 
 def file_with(texts: list[bytes]) -> IO[bytes]:
@@ -78,7 +107,7 @@ def file_with(texts: list[bytes]) -> IO[bytes]:
     return file
 
 
-def joined(texts: list[bytes]) -> list[list[bytes]]:
+def grouped(texts: list[bytes]) -> list[list[bytes]]:
     """Condensed traces in groups, each of which has no more events than a trace may have."""
     groups: list[list[bytes]] = []
     room = 0
@@ -92,40 +121,76 @@ def joined(texts: list[bytes]) -> list[list[bytes]]:
     return groups
 
 
+def joined(head: dict, parts: list[bytes]) -> bytes:
+    """JSON, and bytes behind it: nothing of that is code."""
+    return json.dumps({**head, "lengths": list(map(len, parts))}).encode() + b"\n" + b"".join(parts)
+
+
+def apart(raw: bytes) -> tuple[dict, list[bytes]]:
+    line, _, rest = raw.partition(b"\n")
+    head, at, parts = json.loads(line), 0, []
+    for length in head.pop("lengths"):
+        parts.append(rest[at:at + length])
+        at += length
+    return head, parts
+
+
 class Facts:
     """What some recordings say: condensed traces, which are one once they are merged, and what is known beside them."""
 
     def __init__(self, texts: list[bytes] | None = None) -> None:
         self.texts = texts or []
         self.orders: Table = {}
-        self.locks: dict[bytes, int] = {}  # in how many orders each single lock is that is kept
         self.lists: Table = {}  # the recordings of which something is to be said
-        self.recordings = self.traces = self.folded = self.left_out = 0
-        self.bad: list[tuple[Number, str]] = []
+        self.counts: Table = {}  # how many recordings there are, and the like
+        self.locks: dict[bytes, int] = {}  # in how many orders each single lock is that is kept
+        self.bad: list[tuple[Number, str, bool]] = []  # those that can't be gathered, why, and whether that may be another one elsewhere
         self.sums: dict[Number, int] = {}  # of what each recording says
         self.listed: list[Listed] = []  # the recordings of what was gathered before
+        self.places: Lines = {}  # of these, which are kept
+        self.lots: list[str] = []  # of these, with those that are forgotten
+        self.digest = ""  # of the files of what was gathered before
         self.room = MOST_KEYS  # for single locks
 
     def packed(self) -> bytes:
-        return zlib.compress(pickle.dumps(self.__dict__, 4), 1)
+        """All of it as bytes that can come from anywhere."""
+        tables = [self.orders, self.lists, self.counts]
+        lots = lots_in(*tables)
+        texts = [text_of_table(table, lots) for table in tables] + [text_of_recordings(self.listed, lots), text_of_lines(self.places)] + self.texts
+        said = {"lots": lots, "room": self.room, "locks": {text_of(name): count for name, count in self.locks.items()},
+                "bad": [[words_of_number(number), why, may_differ] for number, why, may_differ in self.bad],
+                "sums": {words_of_number(number): total for number, total in self.sums.items()}}
+        return zlib.compress(joined(said, texts), 1)
 
     @classmethod
     def unpacked(cls, raw: bytes) -> Facts:
-        facts = cls()
-        facts.__dict__.update(pickle.loads(zlib.decompress(raw)))
+        facts, (said, texts) = cls(), apart(zlib.decompressobj().decompress(raw, MOST_OF_RESULT))
+        facts.orders, facts.lists, facts.counts = (table_in(text, said["lots"]) for text in texts[:3])
+        facts.listed, facts.places, facts.texts = recordings_in(texts[3], said["lots"]), lines_in(texts[4]), texts[5:]
+        facts.room, facts.locks = int(said["room"]), {bytes_of(name): int(count) for name, count in said["locks"].items()}
+        facts.bad = [(number_of_words(words), str(why), bool(may_differ)) for words, why, may_differ in said["bad"]]
+        facts.sums = {number_of_words(words): int(total) for words, total in said["sums"].items()}
         return facts
 
 
-def merged(program: Program, parts: list[Facts]) -> Facts:
-    """What several parts say together, in one condensed trace."""
+def merged(program: Program, parts: Iterable[Facts]) -> Facts:
+    """What several parts say together, in one condensed trace. What is long is put together by and by."""
+    gathered, size = [], 0
+    for part in parts:
+        gathered.append(part)
+        size += sum(map(len, part.texts))
+        if size > MOST_AT_ONCE and len(gathered) > 1:
+            gathered = [merged_at_once(program, gathered)]
+            size = sum(map(len, gathered[0].texts))
+    return merged_at_once(program, gathered)
+
+
+def merged_at_once(program: Program, parts: list[Facts]) -> Facts:
     facts = Facts([text for part in parts for text in part.texts])
-    facts.orders, facts.lists = merge_tables([part.orders for part in parts]), merge_tables([part.lists for part in parts])
+    facts.orders, facts.lists, facts.counts = (merge_tables([getattr(part, name) for part in parts]) for name in ("orders", "lists", "counts"))
+    facts.places = merged_lines(part.places for part in parts)
     for part in parts:
         facts.locks.update(part.locks)
-        facts.recordings += part.recordings
-        facts.traces += part.traces
-        facts.folded += part.folded
-        facts.left_out += part.left_out
         facts.bad += part.bad
         facts.listed += part.listed
         facts.sums.update(part.sums)
@@ -168,12 +233,13 @@ def fold(facts: Facts, why: bytes) -> None:
     others |= {quoted(rest_of(name)) + key[-len(",0"):] for name, several in of_locks.items() for key in several}
     room = min(facts.room, MOST_KEYS - len(others))
     gone = beyond(sorted(of_locks, key=lambda name: (-facts.locks[name], name)), of_locks, room)
-    facts.folded += sum(not is_rest(name) for name in gone)
+    facts.counts = merge_tables([facts.counts, {FOLDED_LOCKS: Seen((("", sum(not is_rest(name) for name in gone)),))}])
     facts.lists.update({FOLDED + WHY_FOLDED[why]: Seen()} if gone else {})
     for name in gone:
         del facts.locks[name]
     names = {name: rest_of(name) for name in gone}
     facts.texts = [with_names(text, names) for text in facts.texts]
+    facts.orders = {entry: seen for entry, seen in facts.orders.items() if b"#" not in entry or not names.keys() & TIMED_ENTRY.split(entry)}
 
 
 def keys_of_locks(keys: set[bytes], locks: dict[bytes, int]) -> dict[bytes, list[bytes]]:

@@ -1,58 +1,42 @@
 """`lockdep gather`: what recordings of many machines say together, and which of them each order comes from."""
 from __future__ import annotations
 
+import contextlib
+import fcntl
 import os
 import re
 import sys
 import tempfile
+import time
 
 from ..base.command_line import Words
-from ..base.files import STANDARD_OUTPUT, complain, contents, need_output, write_form, write_in_place
+from ..base.files import MOST_OF_FILE, STANDARD_OUTPUT, contents, need_output, text_from, text_named, write_in_place
+from ..base.room import temporary_files
 from ..base.saying import Refusal
 from ..base.words import bytes_of, counted, text_of, visible
-from ..places.sources import sources_of
-from ..program.checker import program, text_answer
-from ..program.findings import Finding
-from ..record.losses import singular, words_of_loss
-from ..record.summary import Count, Summary
-from ..say.forms import text_of_form
-from ..say.text import write_blocks
-from .engines import Work, by_dask, by_processes, need_dask
-from .facts import FOLDED, TOO_LONG, TOO_LONG_NAME, TOO_MANY, TOO_TANGLED, WHY_FOLDED, Facts, Program
-from .findings import Back, FoundInRecordings, InRecordings, findings_in
-from .gathered import LEFT_OUT, MARK, ORDERS, RECORDINGS, TRACE, Gathered, Listed, check_output, is_inside, mark_of, text_of_recordings, write
-from .names import quoted, type_of, unquoted
-from .orders import Seen, text_of_table
-from .recordings import ACCEPTED, NEVER_RAN, UNGATHERED, WEAK_ACQUISITIONS
+from ..program.checker import program_path
+from ..record.complete import is_gathered
+from ..say.found import moment
+from .engines import Local, OnDask, Progress, Tree, Work, need_dask, need_safe
+from .facts import Facts, Lacking, Program, merged
+from .findings import Back, findings_in, places_text
+from .gathered import COUNTS, FILES, HEADER, LEFT, LEFT_OUT, MARK, MOST_LISTED, MOST_OF_MARK, ORDERS, PLACES, RECORDED, RECORDINGS, TRACE
+from .gathered import Gathered, Listed, beside, check_output, is_inside, mark_in, mark_of, text_of_recordings, write
+from .kept_places import text_of_file
+from .nights import Kept, checked_build, checked_night, lot_of
+from .orders import Seen, Table, lots_in, merge_tables, text_of_table
+from .recordings import Task, facts_of_same, is_broken
+from .told import Told, known_entries, say
 from .twice import without_parts
+
+TYPE_CHECKING = False
+if TYPE_CHECKING:
+    from typing import Iterator
 
 FORMS = {"--html": "page", "--sarif": "sarif", "--junit": "junit", "--json": "json"}
 DEFAULT_GROUP = 200
 MOST_PROCESSES = 64  # by default
-FIELD = re.compile(rb'^(acq,|rel,)("(?:[^"]|"")*"|[^,\n]*)', re.MULTILINE)  # with the name of a lock
-
-# What is said of recordings besides their findings.
-SAID = {
-    "breaches": "of a program that did something against what it says of its locks, which `lockdep confirm` shows",
-    "blocked": "with a thread that waited for a lock at its end, which `lockdep run --help` explains",
-    WEAK_ACQUISITIONS: "with acquisitions that wait for a time only, take a new lock, or join a thread that had ended: findings that need these say so",
-    "by-classes": "without traces of single locks, or with more locks than can be told apart: it isn't known what is seen between locks of these",
-    NEVER_RAN: "with signal handlers that never ran, which `lockdep confirm` names: what these take isn't known",
-}
-
-# Why single locks are folded.
-WHY = {
-    WHY_FOLDED[TOO_MANY]: "the checker takes 8,192 keys",
-    WHY_FOLDED[TOO_LONG]: "a trace may have 1,000,000 events",
-    WHY_FOLDED[TOO_TANGLED]: "at most 256 keys may lead to one another",
-    TOO_LONG_NAME: "some names are too long to have the recording's number",
-}
-
-
-def say(text: str) -> None:
-    complain(bytes_of("lockdep: %s\n" % text))
-
-
+LIST = "a list of recordings"
 # ---- What is asked for.
 
 def listed_names(line: Words) -> list[str]:
@@ -62,9 +46,6 @@ def listed_names(line: Words) -> list[str]:
         raise Refusal("a recording's name can't be empty")
     for list_name in line.values.get("--list", []) + [name[1:] for name in line.rest if name.startswith("@")]:
         names += names_in_list(list_name)
-    for name in names:
-        if any(letter in os.path.abspath(name) for letter in "\0\n\t"):
-            raise Refusal("the path of a recording can't have a line break, a tab or a zero byte: %s" % visible(name))
     return each_once(sorted({name.rstrip("/") or name for name in names}, key=bytes_of))
 
 
@@ -83,20 +64,25 @@ def check_names(folder: str, names: list[str]) -> None:
     path = os.path.realpath(folder)
     for name in names:
         if is_inside(name, path):
-            what = "is one of the recordings, whose parts couldn't be found again" if os.path.realpath(name) == path else "has the recording %s" % visible(name)
-            raise Refusal("%s %s; choose another folder by -o" % (visible(folder), what))
+            if os.path.realpath(name) == path:
+                raise Refusal("{0} is one of the recordings: to go on with {0}, add to it by --add -o {0}, without naming it".format(visible(folder)))
+            raise Refusal("%s has the recording %s; choose another folder by -o" % (visible(folder), visible(name)))
+
+
+def check_source(line: Words) -> None:
+    for folder in line.values.get("--source", []):
+        if not os.path.isdir(folder):
+            raise Refusal("%s, whose source is to be shown, is no folder" % visible(folder))
 
 
 def names_in_list(name: str) -> list[str]:
-    try:
-        if name == "-":
-            raw = sys.stdin.buffer.read() if sys.stdin else b""
-        else:
-            with open(bytes_of(name), "rb") as file:
-                raw = file.read()
-    except OSError as error:
-        raise Refusal("%s, a list of recordings, can't be read: %s" % (visible(name), error.strerror))
-    return [line for line in text_of(raw.replace(b"\r\n", b"\n")).split("\n") if line]
+    if name == STANDARD_OUTPUT:
+        text = text_from(sys.stdin.buffer, name, LIST, MOST_OF_FILE) if sys.stdin else ""
+    else:
+        text = text_named(name, LIST, MOST_OF_FILE)
+    if "\0" in text or text.count("\n") > MOST_LISTED:
+        raise Refusal("%s, %s, has %s" % (visible(name), LIST, "a zero byte" if "\0" in text else "more than %s" % counted(MOST_LISTED, "line")))
+    return [line for line in text.replace("\r\n", "\n").split("\n") if line]
 
 
 def forms_in(line: Words, folder: str) -> dict[str, str]:
@@ -112,160 +98,190 @@ def forms_in(line: Words, folder: str) -> dict[str, str]:
     return forms
 
 
-def program_path() -> str:
-    """The checker's own program, which is started often."""
-    named = program()
-    return text_answer(["--program"]).strip() if os.path.basename(named) == "lockdep" and is_script(named) else named
-
-
-def is_script(path: str) -> bool:
-    with open(path, "rb") as file:
-        return file.read(2) == b"#!"
-
-
 # ---- Gathering.
 
-def gathered_facts(line: Words, names: list[str], path: str) -> Facts:
-    size = int(line.last("--group", str(DEFAULT_GROUP)))
-    numbered = [(number, os.path.abspath(name)) for number, name in enumerate(names, 1)]
-    groups = [numbered[at:at + size] for at in range(0, len(numbered), size)]
-    work = Work(path, line.values.get("--accept-left-out", []), groups)
-    if line.has("--scheduler"):
-        return Facts.unpacked(by_dask(work, line.last("--scheduler")))
-    processors = min(len(os.sched_getaffinity(0)), MOST_PROCESSES)
-    return Facts.unpacked(by_processes(work, int(line.last("--processes", str(processors))), len(names)))
+class Asked:
+    """What is gathered: the recordings by number and name, what is known of all of them, and what the folder has that they are added to, if there is one."""
+
+    def __init__(self, line: Words, folder: str) -> None:
+        self.line, self.folder, self.path, self.is_added = line, folder, program_path(), line.has("--add")
+        self.accepted = line.values.get("--accept-left-out", [])
+        night = checked_night(line.last("--night"), "--night") or (time.strftime("%Y-%m-%d", moment()) if self.is_added else "")
+        self.lot = lot_of(night, checked_build(line.last("--build"), "--build"))
+        self.kept = Kept(checked_night(line.last("--since"), "--since"), line.values.get("--forget-build", []))
+        self.task = Task(Program(self.path), self.accepted, self.lot, self.kept)
+        self.before = mark_in(folder) if self.is_added else None
+        self.same = facts_of_same(self.task, folder) if self.before else Facts()
+        self.entries = known_entries(line)
+        self.names: dict[int, str] = {}
+        self.refused: dict[str, str] = {}  # of these, with the reason
+
+    def number(self, names: list[str]) -> None:
+        """Numbers the recordings, behind those that are there. Those of gathered folders that are among them, or are added to, count once."""
+        names, said, self.refused = without_parts(names, self.task, self.folder if self.before else "")
+        gathered_ones = [name for name in names if self.lot and is_gathered(name)]
+        for words in said + ["%s: its recordings have their own nights and builds, and not %s" % (name, self.lot.strip()) for name in gathered_ones]:
+            say(words)
+        self.names = dict(enumerate(names, 1 + max([listed.number[0] for listed in self.same.listed], default=0)))
+
+    def facts(self) -> Facts:
+        """What all of them say."""
+        size = int(self.line.last("--group", str(DEFAULT_GROUP)))
+        numbered = [(number, os.path.abspath(name)) for number, name in self.names.items() if name not in self.refused]
+        groups = [numbered[at:at + size] for at in range(0, len(numbered), size)]
+        common = {"program": self.path, "accepted": self.accepted, "lot": self.lot, "since": self.kept.since, "forgotten": self.kept.forgotten}
+        new = Tree(Work(common, groups), self.engine(len(groups)), Progress(len(numbered))).run() if groups else Facts()
+        new.bad += [((number,), self.refused[name], False) for number, name in self.names.items() if name in self.refused]
+        self.say_bad(new)
+        of_parts = {listed.number[0] for listed in new.listed}
+        states = {number: LEFT_OUT + visible(reason) for number, reason, _ in new.bad}
+        there = states.keys() | new.sums.keys()  # (but for folders of which all is forgotten)
+        new.listed += [Listed((number,), states.get((number,), ""), str(new.sums.get((number,), "")), on_a_line(name), on_a_line(os.path.abspath(name)),
+                              "" if number in of_parts else self.lot) for number, name in self.names.items() if (number,) in there]
+        new.counts = merge_tables([new.counts, {LEFT: Seen(((self.lot, len(new.bad)),) if new.bad else ())}])
+        facts = merged(self.task.program, [self.same, new]) if self.before else new
+        if not facts.counts.get(RECORDED, Seen()).count:
+            raise Refusal("no recording is left to gather")
+        return facts
+
+    def engine(self, groups: int) -> Local | OnDask:
+        if self.line.has("--scheduler"):
+            return OnDask(self.line.last("--scheduler"))
+        processors = min(len(os.sched_getaffinity(0)), MOST_PROCESSES)
+        return Local(min(groups, int(self.line.last("--processes", str(processors)))))
+
+    def say_bad(self, facts: Facts) -> None:
+        """Names the recordings that can't be gathered. They are left out only if that is asked for."""
+        facts.bad = [(number, reason_for(self.names[number[0]], reason), may_differ) for number, reason, may_differ in sorted(facts.bad)]
+        for number, reason, _ in facts.bad:
+            say("%s%s%s" % (self.names[number[0]], " " if OF_NAME.match(reason) else ": ", reason))
+        if facts.bad and not self.line.has("--skip-bad"):
+            raise Refusal("%s of %d can't be gathered, so nothing is; --skip-bad leaves them out" % (counted(len(facts.bad), "recording"), len(self.names)))
+
+
+@contextlib.contextmanager
+def alone(folder: str) -> Iterator[None]:
+    """Has others wait that add to a folder, too: for a file beside it, which is there before it is, and goes at the end. Where none can be locked, `replace`
+    refuses to lose what others have added."""
+    path = os.path.abspath(folder)
+    name, lock = os.path.join(os.path.dirname(path), beside(path) + "lock"), None
+    with contextlib.suppress(OSError):
+        lock = locked(name, folder)
+    try:
+        yield
+    finally:
+        if lock is not None:
+            with contextlib.suppress(OSError):
+                os.unlink(name)
+            os.close(lock)
+
+
+def locked(name: str, folder: str) -> int:
+    """The file of this name, locked."""
+    is_said = False
+    while True:
+        lock = os.open(name, os.O_RDWR | os.O_CREAT | os.O_NOFOLLOW | os.O_NONBLOCK, 0o666)
+        try:
+            fcntl.flock(lock, fcntl.LOCK_EX | fcntl.LOCK_NB)
+        except BlockingIOError:
+            if not is_said:
+                say("another `gather` adds to %s: this one waits until that has ended" % visible(folder))
+            is_said = True
+            fcntl.flock(lock, fcntl.LOCK_EX)
+        if os.path.exists(name) and os.path.samestat(os.fstat(lock), os.stat(name)):
+            return lock
+        os.close(lock)  # (the one before had ended, and has taken it away)
+
+
+def on_a_line(path: str) -> str:
+    """A path as the list of recordings has it. One that has no room there is that of a recording that is left out."""
+    return visible(path) if is_broken(path) else path
+
+
+OF_NAME = re.compile("(is|isn't|has|can't|contradicts) ")  # begins a reason that goes on behind the name
 
 
 def reason_for(name: str, reason: str) -> str:
     """Why a recording can't be gathered, with its name as it was given, and not before the reason."""
     said = reason.replace(visible(os.path.abspath(name)), visible(name))
-    return said[len(visible(name)) + 2:] if said.startswith(visible(name) + ": ") else said
+    return next((said[len(visible(name) + joint):] for joint in (": ", " ") if said.startswith(visible(name) + joint)), said)
 
 
-def say_bad(facts: Facts, names: list[str], is_skipped: bool) -> None:
-    """Names the recordings that can't be gathered. They are left out only if that is asked for."""
-    facts.bad = [(number, reason_for(names[number[0] - 1], reason)) for number, reason in sorted(facts.bad)]
-    for number, reason in facts.bad:
-        say("%s: %s" % (visible(names[number[0] - 1]), reason))
-    if facts.bad and not is_skipped:
-        raise Refusal("%s of %d can't be gathered, so nothing is; --skip-bad leaves them out" % (counted(len(facts.bad), "recording"), len(names)))
-    if not facts.recordings:
-        raise Refusal("no recording is left to gather")
+def check_room(listed: int, lines: int) -> None:
+    """Refuses what would be more than is read of a folder."""
+    for there, most, what in ((listed, MOST_LISTED, "recordings"), (lines, MOST_OF_MARK, "nights and builds")):
+        if there > most:
+            raise Refusal("a folder can't have more than {:,} {}, and these are more: forget earlier nights by --since".format(most, what))
 
 
-def files_of(facts: Facts, names: list[str]) -> dict[str, bytes]:
-    """The files of the folder."""
-    numbered = [((number,), name) for number, name in enumerate(names, 1)]
-    states = {number: LEFT_OUT + visible(reason) for number, reason in facts.bad}
-    given = [Listed(number, states.get(number, ""), str(facts.sums.get(number, "")), name, os.path.abspath(name)) for number, name in numbered]
-    made = {TRACE: facts.texts[0], ORDERS: text_of_table(facts.orders), RECORDINGS: text_of_recordings(sorted(given + facts.listed))}
-    counts = {b"recordings": facts.recordings, b"left-out": facts.left_out + len(facts.bad), b"traces": facts.traces, b"folded": facts.folded}
-    said = {**facts.lists, **{name: Seen(count) for name, count in counts.items()}}
-    return {MARK: mark_of(said, made), **made}
+def files_of(facts: Facts) -> dict[str, bytes]:
+    """The files of the folder, as yet with the places alone that were kept before."""
+    said = {**facts.lists, **{name: facts.counts.get(name, Seen()) for name in COUNTS}}
+    lots = lots_in(facts.orders, said)
+    check_room(len(facts.listed), len(said) + len(FILES) + len(lots))
+    made = {TRACE: (facts.texts or [HEADER])[0], ORDERS: text_of_table(facts.orders, lots), RECORDINGS: text_of_recordings(sorted(facts.listed), lots),
+            PLACES: text_of_file(facts.places)}
+    return with_mark(made, said, lots)
 
 
-# ---- What is said.
-
-def say_gathered(gathered: Gathered, back: Back, folder: str) -> None:
-    say("%s with %s, in %s" % (counted(gathered.count("recordings"), "recording"), counted(gathered.count("traces"), "trace"), visible(folder)))
-    if gathered.count("folded"):
-        why = " and ".join(words for reason, words in WHY.items() if FOLDED + reason in gathered.lists())
-        say("%s folded into %s#rest, since %s: those in the fewest orders" % (
-            counted(gathered.count("folded"), "single lock is", "single locks are"), "CLASS", why))
-    said = dict(SAID, **{name.decode(): "with a loss that is accepted, %s" % name.decode()[len(ACCEPTED):] for name in sorted(accepted_in(gathered))})
-    for name, words in said.items():
-        seen = gathered.lists().get(name.encode())
-        if seen:
-            say("%s %s: %s" % (counted(seen.count, "recording"), words, back.listed(seen)))
+def with_mark(made: dict[str, bytes], said: Table, lots: list[str]) -> dict[str, bytes]:
+    return {**made, MARK: mark_of(said, made, lots)}
 
 
-def accepted_in(gathered: Gathered) -> list[bytes]:
-    """The names of what was left out of some recordings, and is accepted."""
-    return [name for name in gathered.lists() if name.startswith(ACCEPTED.encode())]
-
-
-def left_out_of(gathered: Gathered) -> list[str]:
-    """The recordings that were skipped, in words."""
-    count = gathered.count("left-out")
-    return ["%s that can't be judged" % counted(count, "recording")] if count else []
-
-
-def ungathered(gathered: Gathered, back: Back, accepted: list[str]) -> list[str]:
-    """The recordings of which something wasn't looked at that nobody has accepted, in words."""
-    seen = gathered.lists().get(UNGATHERED.encode())
-    if not seen:
-        return []
-    is_accepted = UNGATHERED in accepted
-    words = words_of_loss(UNGATHERED, "") or ""
-    words = singular(words) if seen.count == 1 else words
-    say("%s%d %s: %s" % ("accepted as left out: " if is_accepted else "", seen.count, words, back.listed(seen)))
-    return [] if is_accepted else ["%d %s" % (seen.count, words.partition(":")[0])]
-
-
-def types_of(trace: bytes) -> bytes:
-    """A condensed trace by the types of its locks."""
-    return FIELD.sub(lambda found: found.group(1) + quoted(type_of(unquoted(found.group(2)))), trace)
-
-
-def write_forms(gathered: Gathered, forms: dict[str, str], findings: list[Finding], recorded: InRecordings, lost: list[str]) -> None:
-    said = {**gathered.counts, **{name.decode(): seen.count for name, seen in gathered.lists().items()}}
-    summary = Summary([Count(name, number) for name, number in said.items()])
+def gather_all(asked: Asked, forms: dict[str, str]) -> int:
+    """Gathers, writes the folder, and says what was found. Another one may have replaced the folder meanwhile, so it isn't read again."""
+    files = files_of(asked.facts())
     with tempfile.TemporaryDirectory(prefix="lockdep-") as room:
-        found = FoundInRecordings(findings, [], sources_of(findings), recorded, [gathered.trace], ", ".join(lost), summary=summary)
-        found.gathered, found.types = gathered, os.path.join(room, "types.csv")
-        write_in_place(bytes_of(found.types), types_of(contents(gathered.trace) or b""))
-        for form, name in forms.items():
-            write_form(name, text_of_form(form, found))
+        write_in_place(bytes_of(os.path.join(room, TRACE)), files[TRACE])
+        gathered = Gathered(room, files)
+        back = Back(gathered, asked.task.program)
+        try:
+            findings = findings_in(gathered, back)
+        except Refusal:
+            write(asked.folder, files, asked.before)
+            raise
+        told = Told(asked.line, asked.entries, gathered, back, findings)
+        files[PLACES] = places_text(back, told.sources, asked.is_added)
+        write(asked.folder, with_mark({name: files[name] for name in FILES}, {**gathered.lists, **gathered.counts}, gathered.lots), asked.before)
+        return told.tell(asked.folder, forms)
 
 
-def write_text(findings: list[Finding], recorded: InRecordings) -> None:
-    sources = sources_of(findings)
-    try:
-        write_blocks(findings, [], sources, recorded)
-    except BrokenPipeError:
-        raise
-    except OSError:
-        raise Refusal("the text can't be written")
+COUNTED = re.compile(rb"^recordings\t([0-9]{1,18})\t", re.MULTILINE)  # in the mark of a folder
 
 
-def explain(line: Words, folder: str, gathered: Gathered, path: str, forms: dict[str, str]) -> int:
-    """Says what was found, and returns the status. Another one may have replaced the folder meanwhile, so it isn't read again."""
-    back = Back(gathered, Program(path))
-    say_gathered(gathered, back, folder)
-    findings, recorded = findings_in(gathered, back), InRecordings(gathered, back)
-    unseen = ungathered(gathered, back, line.values.get("--accept-left-out", []))
-    lost = left_out_of(gathered) + unseen
-    if STANDARD_OUTPUT not in forms.values():
-        write_text(findings, recorded)
-    write_forms(gathered, forms, findings, recorded, lost)
-    counted_ones = [finding for finding in findings if not finding.is_note and (finding.is_counted or not line.has("--strict"))]
-    if lost:
-        say("left out: %s" % ", ".join(lost))
-    if counted_ones or b"breaches" in gathered.lists():
-        return 1
-    return 2 if unseen else 0
+def say_replaced(asked: Asked) -> None:
+    """Says that the folder had recordings that aren't gathered now."""
+    if asked.is_added or not is_gathered(asked.folder):
+        return
+    raw, mark = (contents(os.path.join(asked.folder, name)) or b"" for name in (RECORDINGS, MARK))
+    fields = [line.split("\t") for line in text_of(raw).split("\n")]
+    paths, count = {each[4] for each in fields if len(each) > 4 and "@" not in each[0]}, COUNTED.search(mark)
+    if count and paths - {os.path.abspath(name) for name in asked.names.values()}:
+        many = int(count.group(1))
+        verb, them = ("is", "it") if many == 1 else ("are", "them")
+        say("%s had %s, which %s replaced; --add keeps %s" % (asked.folder, counted(many, "recording"), verb, them))
 
 
 def gather(line: Words) -> int:
     if line.has("--scheduler"):
         need_dask()
+        if not line.has("--insecure"):
+            need_safe(line.last("--scheduler"))
     if not line.has("-o"):
         raise Refusal("where to? lockdep gather -o FOLDER RECORDING..")
     folder = line.last("-o").rstrip("/") or "/"
     check_output(folder)
     forms, names = forms_in(line, folder), listed_names(line)
-    if not names:
+    if not names and not (line.has("--add") and is_gathered(folder)):
         raise Refusal("which recordings? lockdep gather -o FOLDER RECORDING..")
     check_names(folder, names)
+    check_source(line)
     need_output()
-    path = program_path()
-    names, said = without_parts(names, path, line.values.get("--accept-left-out", []))
-    for words_said in said:
-        say(words_said)
-    facts = gathered_facts(line, names, path)
-    say_bad(facts, names, line.has("--skip-bad"))
-    files = files_of(facts, names)
-    write(folder, files)
-    with tempfile.TemporaryDirectory(prefix="lockdep-") as room:
-        write_in_place(bytes_of(os.path.join(room, TRACE)), files[TRACE])
-        return explain(line, folder, Gathered(room, files), path, forms)
+    try:
+        with temporary_files(), alone(folder) if line.has("--add") else contextlib.nullcontext():
+            asked = Asked(line, folder)
+            asked.number(names)
+            say_replaced(asked)
+            return gather_all(asked, forms)
+    except Lacking as lacking:
+        raise Refusal("the recordings can't be gathered here: %s" % lacking)

@@ -3,11 +3,21 @@ recording 7 is `accounts#1@7`, and `accounts#rest` is `accounts#rest@7`. So no t
 everywhere."""
 from __future__ import annotations
 
+import re
+
+TYPE_CHECKING = False
+if TYPE_CHECKING:
+    from typing import Callable, Container
+
 MOST_OF_NAME = 64  # bytes
 REST = b"rest"  # stands for all locks of a class that aren't told apart
 DIGITS = b"0123456789abcdefghijklmnopqrstuvwxyzABCDEFGHIJKLMNOPQRSTUVWXYZ"
 MOST_OF_TOKEN = 6  # digits of what stands for a lock whose name would be too long
 MOST_LOCKS = 8192  # names of a recording
+TIMED_ENTRY = re.compile(rb"^(weak [a-z-]+ )(.*)(/[0-7] [ES][NR] )(.*)(/[0-7])$", re.DOTALL)
+TIMED_ORDER, WHOLE = b"weak timed ", b"whole "  # begin entries of the table that are no order and no mark (timed.py, whole.py)
+BETWEEN = b"  "  # the orders and marks of the latter; no name has a space
+FIELD = re.compile(rb'(?<![^\r\n])(acq,|rel,)("(?:[^"\r\n]|"")*"|[^,\r\n]*)')  # with the name of a lock
 
 
 class NoRoom(Exception):
@@ -31,6 +41,11 @@ def class_of(name: bytes) -> bytes:
 def type_of(name: bytes) -> bytes:
     """What stands before the first `@` of the class."""
     return class_of(name).partition(b"@")[0] or class_of(name)
+
+
+def at_level(trace: bytes, level: Callable[[bytes], bytes]) -> bytes:
+    """Some of a trace by the classes or the types of its locks."""
+    return FIELD.sub(lambda found: found.group(1) + quoted(level(unquoted(found.group(2)))), trace)
 
 
 def is_lock(name: bytes) -> bool:
@@ -78,12 +93,27 @@ def name_in_recording(name: bytes, recording: int, place: int) -> bytes:
 
 
 def recording_of(name: bytes) -> int | None:
-    """The number of the recording that a lock of what was gathered is from; None for a lock of several."""
+    """The number of the recording that a lock of what was gathered is from; None for a lock of several, and 0 for a name that nothing was gathered by."""
     tail = name.rpartition(b"#")[2]
     if not is_lock(name) or tail == REST:
         return None
     _, mark, number = tail.rpartition(b"@")
-    return int(number) if mark else number_in(tail) // MOST_LOCKS
+    try:
+        return int(number) if mark else number_in(tail) // MOST_LOCKS
+    except ValueError:
+        return 0
+
+
+def owner_of(key: bytes, above: Container[tuple[int, ...]]) -> tuple[int, ...]:
+    """The recording that a lock is of, as far as the name says so: empty for one of several. Those are given that were gathered before, and have others."""
+    name, number = name_of_key(key), ()
+    while not number or number in above:
+        own = recording_of(name)
+        if own is None:
+            break
+        number += (own,)
+        name = name.rpartition(b"@")[0]
+    return number
 
 
 def key_of(line: bytes) -> bytes:

@@ -3,7 +3,6 @@ if these are tries. An order that is gone in all recordings that have it is a tr
 from __future__ import annotations
 
 import os
-import re
 import tempfile
 
 from ..ask.timed import gone_without, lines_between_locks, marked_in, with_tries, written_again
@@ -13,11 +12,8 @@ from ..program.checker import REFUSED
 from ..program.findings import Finding
 from ..program.verdicts import Judgement, Level, Reason, Verdict
 from .facts import Program
-from .names import in_recording, is_lock, name_of_key
-from .orders import LockOrder, Seen, Table, facts_in, records_of
-
-TIMED_ORDER = b"weak timed "  # begins what the table calls such an order, by single locks
-ENTRY = re.compile(rb"^(weak [a-z-]+ )(.*)(/[0-7] [ES][NR] )(.*)(/[0-7])$", re.DOTALL)
+from .names import TIMED_ENTRY, TIMED_ORDER, in_recording, name_of_key, recording_of
+from .orders import LockOrder, Seen, Table, facts_in, seen_once
 
 
 def entry_of(order: LockOrder) -> bytes:
@@ -34,17 +30,17 @@ def timed_entries(program: Program, folder: str, traces: list[str], trace: bytes
     return {TIMED_ORDER + entry_of(order) for order in set(facts_in(trace)[0]) - set(facts_in(answer.output)[0])}
 
 
-def timed_table(program: Program, number: int, folder: str, traces: list[str], trace: bytes) -> Table:
+def timed_table(program: Program, number: int, lot: str, folder: str, traces: list[str], trace: bytes) -> Table:
     """The same as a table of this recording, with the names that its locks have in what is gathered."""
     with tempfile.TemporaryDirectory(prefix="lockdep-") as room:
         entries = timed_entries(program, folder, traces, trace, room)
-    return renamed({entry: Seen(1, ((number,),)) for entry in entries}, in_recording(trace, number)[1] if entries else {})
+    return renamed({entry: seen_once(number, lot) for entry in entries}, in_recording(trace, number)[1] if entries else {})
 
 
 def renamed(table: Table, names: dict[bytes, bytes]) -> Table:
     """The table with the names that locks have in what is gathered."""
     def entry_for(entry: bytes) -> bytes:
-        found = ENTRY.match(entry)
+        found = TIMED_ENTRY.match(entry)
         if not found:
             return entry
         start, first, middle, second, end = found.groups()
@@ -58,20 +54,23 @@ def timed_orders(trace: bytes, table: Table) -> set[LockOrder]:
     for order in set(facts_in(trace)[0]):
         entry = entry_of(order)
         count = table.get(TIMED_ORDER + entry, Seen()).count
-        is_of_one = is_lock(name_of_key(order[0])) or is_lock(name_of_key(order[2]))
+        is_of_one = any(recording_of(name_of_key(key)) for key in (order[0], order[2]))
         if count and (is_of_one or count == table.get(entry, Seen()).count):
             timed.add(order)
     return timed
 
 
-def judge_timed(findings: list[Finding], trace: bytes, table: Table, room: str) -> None:
+def judge_timed(findings: list[Finding], trace: bytes, table: Table) -> None:
     """Judges the findings between single locks that need waits with a limit."""
     asked = [finding for finding in findings if finding.level is Level.LOCKS]
     timed = timed_orders(trace, table) if asked and any(entry.startswith(TIMED_ORDER) for entry in table) else set()
     if not timed:
         return
-    path = os.path.join(room, "timed.csv")
-    write_in_place(bytes_of(path), with_tries(trace, records_of(trace, timed)))
-    left = lines_between_locks([path])
+    with tempfile.TemporaryDirectory(prefix="lockdep-") as room:
+        path = os.path.join(room, "timed.csv")
+        records: list[int] = []
+        orders, _ = facts_in(trace, records)
+        write_in_place(bytes_of(path), with_tries(trace, [record for order, record in zip(orders, records) if order in timed]))
+        left = lines_between_locks([path])
     for finding in gone_without(asked, left) if left is not None else ():
         finding.judged = Judgement(Verdict.NOT_SHOWN, Reason.TIMED)
