@@ -16,7 +16,7 @@ from ..binaries.symbols import Address
 from ..places.places import NO_PLACE, Places, classes_in
 from ..program.findings import Finding, Order
 from ..record.handlers import THREADS, Handler
-from .runs import Standing
+from .standing import Standing
 from .table import Place
 
 MOST_PLACES = 64  # of an order, each
@@ -42,12 +42,14 @@ class PlannedOrder:
         """A key of a trace as the order has it."""
         return type_of_key(key) if self.is_of_types else key
 
-    def lines(self, number: int) -> list[str]:
+    def lines(self) -> list[str]:
+        """Its places, as the plan of a run has them."""
         places = {("hold", chain[0]) for chain in self.holds} | {("want", chain[0]) for chain in self.wants}
         if self.handler:
-            places.add(("signal-%d" % number_of_signal(self.handler.signal), Address(self.handler.module, self.handler.offset)))
-        return ["order %d" % number] + ["%s %s %s" % (word, NO_PLACE if place.offset is None else "%x" % place.offset, place.module)
-                                        for word, place in sorted(places, key=lambda pair: (pair[0], pair[1].module, pair[1].offset or 0))]
+            word = "timer" if self.handler.is_by_timers else "signal"
+            places.add(("%s-%d" % (word, number_of_signal(self.handler.signal)), Address(self.handler.module, self.handler.offset)))
+        return ["%s %s %s" % (word, NO_PLACE if place.offset is None else "%x" % place.offset, place.module)
+                for word, place in sorted(places, key=lambda pair: (pair[0], pair[1].module, pair[1].offset or 0))]
 
 
 def known_places(folder: str) -> dict[str, Place]:

@@ -9,17 +9,16 @@ from ..base.command_line import Words
 from ..base.processes import find_command
 from ..base.saying import Refusal
 from ..base.words import class_of_lock, name_in, type_of_class
-from ..finish.joins import THREAD
 from ..places.places import classes_in
 from ..program.findings import Finding
 from ..program.verdicts import Level, Reason
-from ..record.folder import fault
+from ..record.folder import DEFAULT_FOLDER, fault
 from ..record.recorders import RECORDERS, Recorder, recorder_for
 from ..record.summary import recorder_of
 from ..say.recorded import summary_quietly
 from .holders import HOLDERS, Holder
 from .plan import why_not_by_signal
-from .recorded import ENDING, recorded
+from .recorded import ENDING, Recorded, recorded
 from .table import Modules
 from .tries import NOT_HAPPENED, NOTHING_TRIED, Tries, say
 
@@ -27,30 +26,34 @@ LONGER = 10  # how many times as long as the recorded run another one may take
 LEAST_LIMIT = 30.0  # seconds
 OF_TYPES = "no class of locks takes part both ways"
 TIMED = "its cycle needs a wait that gives up"
+INTERRUPTED = (-signal.SIGINT, 128 + signal.SIGINT)  # statuses of a run that Ctrl-C has ended
 
 
 def provoke(home: str, line: Words) -> int:
     """Records the command, or takes a recording of it, and tries each cycle that was found."""
     recorder = look_at_command(line)
     holder = holder_of(recorder, home)
-    folder, seconds = line.last("--from"), 0.0
+    folder, run = line.last("--from"), Recorded()
     if not folder:
-        folder = line.last("-o", "lockdep-traces")
-        seconds = recorded(home, folder, recorder, holder, line)
+        folder = line.last("-o", DEFAULT_FOLDER)
+        run = recorded(home, folder, recorder, holder, line)
     asked = ask_about(folder)
     if asked.is_refused:
         raise Refusal("the recording in %s can't be judged; `lockdep confirm %s` says why" % (folder, folder))
     found = [finding for finding in asked.findings() if not finding.is_note]
     if not found:
-        say("nothing was found, so there is nothing to provoke")
+        if run.status in INTERRUPTED:
+            say("the recorded run was interrupted, and nothing was found in it until then")
+            return NOTHING_TRIED
         is_lost = asked.left_out or summary_quietly(home, folder).status  # (what was left out may have a finding)
+        say("nothing was found in what was recorded, and what was left out isn't judged" if is_lost else "nothing was found, so there is nothing to provoke")
         return NOTHING_TRIED if is_lost else NOT_HAPPENED
     findings = chosen(found, line, set() if holder.numbers is Modules else addressed(folder))
     if not findings:
         return NOTHING_TRIED
     heed_signals()
     try:
-        return Tries(folder, line, holder, max(LEAST_LIMIT, LONGER * seconds)).all(findings, asked.traces)
+        return Tries(folder, line, holder, run, max(LEAST_LIMIT, LONGER * run.seconds)).all(findings, asked.traces)
     except OSError as error:
         raise Refusal(fault(error, folder))
     except Ended as ended:  # (the run has been ended by now)
@@ -119,9 +122,9 @@ def addressed(folder: str) -> set[str]:
 
 
 def chosen(findings: list[Finding], line: Words, unheld: set[str]) -> list[tuple[int, Finding]]:
-    """The findings that are tried, with their numbers. Those that can't be are named, such as those of locks that aren't watched in a run."""
+    """The findings that are tried, with their numbers, which stay as they are when something has happened. Those that can't be are named, such as those of locks that aren't watched in a run."""
     wanted = [int(number) for number in line.values.get("--finding", [])]
-    found = [(number, finding) for number, finding in enumerate(findings, 1) if not wanted or number in wanted]
+    found = [(finding.number, finding) for finding in sorted(findings, key=lambda finding: finding.number) if not wanted or finding.number in wanted]
     missing = [number for number in wanted if number not in dict(found)]
     if missing:
         raise Refusal("there is no finding %d: there are %d" % (missing[0], len(findings)))
@@ -144,8 +147,6 @@ def why_untried(finding: Finding) -> str:
         return "only cycles of locks and findings of signal handlers are tried"
     if why_not_by_signal(finding):
         return why_not_by_signal(finding)
-    if any(order.end.startswith(THREAD) for order in finding.orders):
-        return "its cycle waits for a thread's end"
     if finding.level is Level.TYPES:
         return OF_TYPES
     return TIMED if finding.judged and finding.judged.reason is Reason.TIMED else ""

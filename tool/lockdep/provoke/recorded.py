@@ -4,28 +4,37 @@ from __future__ import annotations
 import os
 import signal
 import time
+from dataclasses import dataclass
 
 from ..base.command_line import Words
 from ..base.processes import start
 from ..base.saying import Refusal, write_error
 from ..record.folder import checked
 from ..record.recorders import Recorder
+from ..record.recording import pass_on
 from .holders import Holder
 from .load import Load, send
-from .runs import LOOK, parent_of
-from .table import state_of
+from .standing import LOOK
+from .system import ENDED, WAIT4, WAITID, call_of, descendants, listed, state_of, tasks_of, text_of_file, waits_for_lock
 
 ENDING = (signal.SIGINT, signal.SIGTERM, signal.SIGHUP)  # signals that end this command
 STILL = 10.0  # seconds for which a program that stands still is waited for
-STILL_LOOK = 0.5  # seconds from one look for that to the next
-FUTEX, WAIT4, WAITID = "202", "61", "247"  # system calls on x86-64
-ENDED = ("", "Z", "X")  # states of processes
+STILL_LOOK = 0.5  # seconds from one look for that to the next, at least
 
 
-def recorded(home: str, folder: str, recorder: Recorder, holder: Holder, line: Words) -> float:
-    """Records the command, with another one beside it if that is asked for, and returns how many seconds it took. A signal ends the recorded
-    run: the terminal's Ctrl-C comes to it too, and others are passed on."""
+@dataclass(frozen=True)
+class Recorded:
+    """The run that was recorded: its seconds, and its status, if they are known."""
+
+    seconds: float = 0.0
+    status: int | None = None
+
+
+def recorded(home: str, folder: str, recorder: Recorder, holder: Holder, line: Words) -> Recorded:
+    """Records the command, with another one beside it if that is asked for. A signal ends the recorded run: the terminal's Ctrl-C comes to it too, and
+    others are passed on."""
     began, before = time.monotonic(), made_at(folder)
+    pass_on(recorder, line.last("--signals"), "")
     recording = start(recording_words(home, folder, recorder, line))
     for number in ENDING:
         if signal.getsignal(number) is not signal.SIG_IGN:
@@ -33,7 +42,7 @@ def recorded(home: str, folder: str, recorder: Recorder, holder: Holder, line: W
     status = end_of_recording(recording, folder, line.last("--while"), holder)
     if made_at(folder) in (0, before):
         raise Refusal("nothing was recorded: the recorder ended with status %d" % status)
-    return time.monotonic() - began
+    return Recorded(time.monotonic() - began, status)
 
 
 def recording_words(home: str, folder: str, recorder: Recorder, line: Words) -> list[str]:
@@ -82,8 +91,9 @@ class Stillness:
     """Looks now and then whether all threads of what was started wait without an end for one another."""
 
     def __init__(self) -> None:
-        self.looked = self.since = time.monotonic()
-        self.seen: list[str] = []
+        self.looked = time.monotonic()
+        self.looks = 0  # with nothing changed (and not a time, in which the machine may have stood)
+        self.seen: list[list[str]] = []
 
     def is_sure(self, above: int) -> bool:
         """Whether they have done so for a time, with nothing changed. `above` is the process that has started them."""
@@ -92,9 +102,9 @@ class Stillness:
             return False
         self.looked = now
         calls = calls_of(recorded_below(above))
-        if calls != self.seen or not are_endless(calls):
-            self.seen, self.since = calls, now
-        return now - self.since >= STILL
+        self.looks = self.looks + 1 if calls == self.seen and are_endless(calls) else 0
+        self.seen = calls
+        return self.looks >= STILL / STILL_LOOK
 
 
 def recorded_below(recorder: int) -> list[int]:
@@ -103,40 +113,11 @@ def recorded_below(recorder: int) -> list[int]:
     return [process for process in descendants(recorder) if text_of_file("/proc/%d/cmdline" % process) != own]
 
 
-def calls_of(processes: list[int]) -> list[str]:
-    """The system calls in which the threads of these processes are, as the system has them: each one's number and what it was given."""
-    return [text_of_file("/proc/%d/task/%s/syscall" % (process, thread)) for process in processes if state_of(process, process) not in ENDED
-            for thread in sorted(listed("/proc/%d/task" % process))]
+def calls_of(processes: list[int]) -> list[list[str]]:
+    """The system calls in which the threads of these processes are."""
+    return [call_of(process, thread) for process in processes if state_of(process, process) not in ENDED for thread in tasks_of(process)]
 
 
-def are_endless(calls: list[str]) -> bool:
+def are_endless(calls: list[list[str]]) -> bool:
     """Whether each thread waits for a lock or the like, or for a child's end, without a limit of time, and at least one for a lock."""
-    words = [call.split() for call in calls]
-    futexes = [each for each in words if each[:1] == [FUTEX]]
-    return bool(futexes) and all(each[4:5] == ["0x0"] if each[:1] == [FUTEX] else each[:1] in ([WAIT4], [WAITID]) for each in words)
-
-
-def text_of_file(path: str) -> str:
-    """What the system says of a process or thread; empty if it is gone, or mustn't be looked at."""
-    try:
-        with open(path, encoding="utf-8", errors="surrogateescape") as file:
-            return file.read()
-    except OSError:
-        return ""
-
-
-def descendants(process: int) -> list[int]:
-    """What a process has started, and what that has, as long as these are there."""
-    parents = {int(name): parent_of(int(name)) for name in os.listdir("/proc") if name.isdigit()}
-    found, new = [], [process]
-    while new:
-        new = [child for child, parent in parents.items() if parent in new]
-        found += new
-    return found
-
-
-def listed(folder: str) -> list[str]:
-    try:
-        return os.listdir(folder)
-    except OSError:
-        return []
+    return any(map(waits_for_lock, calls)) and all(waits_for_lock(call) or call[:1] in ([WAIT4], [WAITID]) for call in calls)

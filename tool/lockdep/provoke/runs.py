@@ -6,99 +6,79 @@ import resource
 import signal
 import subprocess
 import time
-from dataclasses import dataclass
+from dataclasses import dataclass, field
 
 from .holders import Holder
 from .load import Load, send
-from .table import READS_BEHIND, WRITES, Modules, Place, Table, Thread, cycle_in, sleeps, state_of
+from .standing import LOOK, Doubt, Standing, Waiting, Watch, builds_of, status_words, waiting
+from .system import ENDED, children_of, state_of
+from .table import Table
+from .ways import Way
 
-LOOK = 0.02  # seconds from one look to the next
-SURE = 0.2  # seconds for which threads that were let go have to stand
-SURE_UNPLANNED = 2.0  # the same of others
 GRACE = 0.5  # seconds that a process has to end
 MOST_GENERATIONS = 100  # of processes that are left, each by the one before
 PR_SET_CHILD_SUBREAPER = 36
 
 
-@dataclass(frozen=True)
-class Standing:
-    """A thread of a program that stands still: its number and name; what tells the lock that it waits for, and the one that the thread before
-    it waits for, apart from others of their classes; the places of both, if they are in a module, or their classes if the run knows these; the
-    places of its callers where it waits for the one and took the other; a bit for each order of the run's plan of which the latter is known as
-    the first lock; and whether it waits as a reader for another one, behind a writer."""
-
-    number: int
-    name: str
-    awaited: str
-    held: str
-    awaited_place: Place | None
-    held_place: Place | None
-    waits: list[Place]
-    holds: list[Place]
-    orders: int
-    is_behind: bool
-
-
 @dataclass
 class Outcome:
-    """How a run ended: with the command's status, or standing still, or at the limit of its time."""
+    """How a run ended: with the command's status, or standing still, for how many seconds, what could end that, and of which builds the process is, or at
+    the limit of its time, and which threads waited then. Also for how many seconds threads stood that went on."""
 
     status: int | None = None
     process: int = 0
     standing: list[Standing] | None = None
-    is_too_long: bool = False
+    doubts: list[Doubt] = field(default_factory=list)
+    stood: float = 0.0
+    builds: tuple[str, ...] = ()
+    waiting: list[Waiting] | None = None
+    went_on: float = 0.0
 
-
-class Watch:
-    """Looks for threads that wait for one another, and says so when they did long enough."""
-
-    def __init__(self, table: Table) -> None:
-        self.table = table
-        self.seen: tuple[tuple[int, int], ...] = ()
-        self.since = 0.0
-
-    def standstill(self) -> list[Thread]:
-        """The threads of a cycle in which nothing has changed for a time, and all are asleep."""
-        cycle = cycle_in(self.table.threads())
-        seen = tuple(sorted((thread.thread, thread.changes) for thread in cycle))
-        now = time.monotonic()
-        if not cycle or seen != self.seen:
-            self.seen, self.since = seen, now
-            return []
-        sure = SURE if all(thread.order for thread in cycle) else SURE_UNPLANNED
-        return cycle if now - self.since >= sure and all(map(sleeps, cycle)) else []
+    @property
+    def is_too_long(self) -> bool:
+        return self.waiting is not None
 
 
 class Run:
     """A run of the command with its threads held back."""
 
-    def __init__(self, command: list[str], holder: Holder, plan: str, table: Table, pause: str, given: str, output: int, load: str,
+    def __init__(self, command: list[str], holder: Holder, plan: str, table: Table, way: Way, given: str, output: int, load: str,
                  dumps: bool) -> None:
-        environment = dict(holder.environment(command), LOCKDEP_PROVOKE_PLAN=plan, LOCKDEP_PROVOKE_TABLE=table.path)
-        if pause:
-            environment["LOCKDEP_PROVOKE_PAUSE"] = pause
+        environment = dict(holder.environment(command), LOCKDEP_PROVOKE_PLAN=plan, LOCKDEP_PROVOKE_TABLE=table.path,
+                           LOCKDEP_PROVOKE_PAUSE=str(way.pause))
         self.table, self.load, self.holder = table, Load(load, output), holder
         most = resource.getrlimit(resource.RLIMIT_CORE)[1]
         with open(given or os.devnull, "rb") as stdin:
             self.child = subprocess.Popen(holder.command(command), stdin=stdin, stdout=output, stderr=output, env=environment, start_new_session=True,
                                           preexec_fn=lambda: resource.setrlimit(resource.RLIMIT_CORE, (most if dumps else 0, most)))
 
-    def outcome(self, limit: float) -> Outcome:
-        """Waits until the command and what it has left in the background have ended, or stand still, for so many seconds at most."""
-        watch, end = Watch(self.table), time.monotonic() + limit
-        while time.monotonic() < end:
-            standing = watch.standstill()
-            if standing:
-                return Outcome(process=standing[0].process, standing=described(standing, self.holder.numbers(standing[0], self.table)))
+    def outcome(self, limit: float, sure: float) -> Outcome:
+        """Waits until the command and what it has left in the background have ended, or stand still for so many seconds, and for a limit at most: behind
+        that only as long as they stand."""
+        watch, end = Watch(self.table, self.holder.numbers, sure), time.monotonic() + limit
+        while time.monotonic() < end or watch.still:
+            if watch.look():
+                return Outcome(process=watch.cycle[0].process, standing=watch.standing, doubts=watch.doubts, stood=watch.stood,
+                               builds=builds_of(watch.cycle[0], watch.standing))
             if self.child.poll() is not None and not self.is_something_left():
-                return Outcome(status=self.child.returncode)
-            self.load.step(bool(self.table.threads()), self.child.pid)
+                return self.ended(watch)
+            if not watch.cycle:  # (or the program may be ended that stands still)
+                self.load.step(bool(self.table.threads()), self.child.pid)
             time.sleep(LOOK)
-        return Outcome(status=self.child.returncode, is_too_long=self.child.returncode is None)
+        is_running = self.child.returncode is None
+        return Outcome(status=self.child.returncode, waiting=waiting(self.table, self.holder.numbers) if is_running else None, went_on=watch.longest)
+
+    def ended(self, watch: Watch) -> Outcome:
+        """The program has ended: perhaps as it stood still, as by a thread that ends it then, or after its threads had gone on, as the table says."""
+        status = self.child.returncode
+        watch.look()
+        if not watch.has_stood():
+            return Outcome(status=status, went_on=watch.longest)
+        return Outcome(status=status, standing=watch.standing, doubts=[Doubt("then the program ended with " + status_words(status), False)], stood=watch.stood)
 
     def is_something_left(self) -> bool:
         """Whether the command, which has ended, has left processes in the background, which have come to this one."""
-        return any(state_of(process, process) not in ("", "Z", "X") for process in children())
+        return any(state_of(process, process) not in ENDED for process in children_of(os.getpid()))
 
     def end(self, process: int) -> None:
         """Ends what stands still, and all that the run has left."""
@@ -110,7 +90,7 @@ class Run:
         send(self.child.pid, signal.SIGKILL)
         self.child.wait()
         for _ in range(MOST_GENERATIONS):
-            left = children()
+            left = children_of(os.getpid())
             for other in left:
                 send(other, signal.SIGKILL)
                 reap(other)
@@ -130,43 +110,8 @@ def adopt_orphans() -> None:
     ctypes.CDLL(None).prctl(PR_SET_CHILD_SUBREAPER, 1, 0, 0, 0)
 
 
-def children() -> list[int]:
-    """The processes that this one has."""
-    own = os.getpid()
-    return [int(name) for name in os.listdir("/proc") if name.isdigit() and parent_of(int(name)) == own]
-
-
-def parent_of(process: int) -> int:
-    try:
-        with open("/proc/%d/stat" % process, "rb") as file:
-            return int(file.read().rpartition(b")")[2].split()[1])
-    except (OSError, IndexError, ValueError):
-        return 0
-
-
 def reap(process: int) -> None:
     try:
         os.waitpid(process, 0)
     except OSError:
         pass
-
-
-def described(cycle: list[Thread], numbers_of: Modules) -> list[Standing]:
-    """The threads of a cycle, each with its places, from the one at the first order on. The one before in the cycle waits for what a thread
-    holds."""
-    first = min(range(len(cycle)), key=lambda at: cycle[at].order or len(cycle) + 1)
-    cycle = cycle[first:] + cycle[:first]
-    numbers = {number: place for place, number in enumerate(sorted(thread.thread for thread in cycle), 1)}
-    found = []
-    for at, thread in enumerate(cycle):
-        held = thread.hold_before(cycle[at - 1])
-        awaited, awaited_place = numbers_of.lock(thread.awaited)
-        own, own_place = numbers_of.lock(held.lock)
-        found.append(Standing(numbers[thread.thread], numbers_of.name(thread), awaited, own, awaited_place, own_place,
-                              placed(numbers_of, thread.callers), placed(numbers_of, held.callers), held.orders,
-                              thread.mode == READS_BEHIND and cycle[(at + 1) % len(cycle)].hold_before(thread).mode != WRITES))
-    return found
-
-
-def placed(numbers_of: Modules, callers: tuple[int, ...]) -> list[Place]:
-    return [place for place in map(numbers_of.place, callers) if place]

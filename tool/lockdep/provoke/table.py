@@ -6,29 +6,39 @@ import mmap
 import os
 import struct
 from dataclasses import dataclass
-from typing import Optional, Tuple
+from typing import NamedTuple, Optional, Tuple
 
 from ..base.words import text_of
 
 MOST_ORDERS = 64
+MOST_POINTS = 512
+MOST_TIMERS = 16
 MOST_THREADS = 1024
 MOST_HELD = 48
 MOST_CALLERS = 16
 CALLERS_OF_HELD = 8
 HEAD, COUNTS = struct.Struct("=8sII"), struct.Struct("=4I")
-THREAD, HELD = struct.Struct("=iiIIIIQII%dQII" % MOST_CALLERS), struct.Struct("=QIIQ%dQ" % CALLERS_OF_HELD)
-MAGIC = b"provoke1"
+THREAD, HELD = struct.Struct("=iiIIIIQII%dQIIQII" % MOST_CALLERS), struct.Struct("=QBBHIQ%dQ" % CALLERS_OF_HELD)
+TIMER, LAST = struct.Struct("=iiQQQ"), struct.Struct("=%dI2IIiI%dB" % (MOST_ORDERS, MOST_POINTS + 1))
+MAGIC = b"provoke2"
 TEXTS = ".texts"  # behind the name of the file: another one, with a line for each place and name that the program's language has in words
 SIZE_OF_THREAD = THREAD.size + MOST_HELD * HELD.size
 FIRST_THREAD = HEAD.size + MOST_ORDERS * COUNTS.size
-SIZE = FIRST_THREAD + MOST_THREADS * SIZE_OF_THREAD
+FIRST_TIMER = FIRST_THREAD + MOST_THREADS * SIZE_OF_THREAD
+FIRST_OF_LAST = FIRST_TIMER + MOST_TIMERS * TIMER.size
+SIZE = (FIRST_OF_LAST + LAST.size + 7) // 8 * 8
 BITS_OF_CLASS = 28  # of a lock that isn't known by its address
+SHARED_LOCK = 1 << 63  # a bit of the number of a lock that several processes share
 STANDS, WAITS = 1, 2
 WRITES, READS_BEHIND = 0, 2  # the latter also waits for readers, if a writer that waits for them is before it
+IN_LOCK, IN_SPIN, IN_CONDITION, IN_JOIN, IN_ONCE, IN_SEMAPHORE, INTERRUPTIBLE = range(7)  # what a thread waits in
+BY_HOLDER, BY_ANYBODY, BY_OTHERS = 1, 2, 3  # who may release a lock: its holder alone, anybody, as a rule, or others, if need be
+ASKED, TAKEN = 1, 2  # how far a point of the schedule was come to
+NANOSECONDS = 1e9  # of a second
+RUNS_FUNCTION = -1  # of a timer that sends no signal
 
 
-@dataclass(frozen=True)
-class Counts:
+class Counts(NamedTuple):
     """Of an order: how often its second lock was asked for, how often so with the first one held, how often a thread stood there, and how often a
     task asked for it that isn't held back."""
 
@@ -44,6 +54,7 @@ class Held:
 
     lock: int
     mode: int
+    releasing: int
     orders: int
     callers: tuple[int, ...]
 
@@ -62,17 +73,50 @@ class Thread:
     awaited: int
     callers: tuple[int, ...]
     name: int
+    itself: int
+    call: int
+    point: int
     held: tuple[Held, ...]
 
     def is_in_the_way(self, other: Thread, behind: set[tuple[int, int]]) -> bool:
-        """Whether it holds what the other one waits for. Of each process those locks are known which writers wait for."""
-        return self.process == other.process and any(
+        """Whether it holds what the other one waits for, or is that itself. Of each process those locks are known which writers wait for."""
+        if self.process != other.process and not other.awaited & SHARED_LOCK:
+            return False
+        return (other.call == IN_JOIN and self.itself == other.awaited) or any(
             held.lock == other.awaited and (WRITES in (held.mode, other.mode) or (
                 other.mode == READS_BEHIND and (other.process, other.awaited) in behind)) for held in self.held)
 
     def hold_before(self, other: Thread) -> Held:
-        """The lock of this thread's that the other one waits for."""
-        return next(held for held in self.held if held.lock == other.awaited)
+        """The lock of this thread's that the other one waits for; its end, if that one joins it."""
+        return next((held for held in self.held if held.lock == other.awaited), Held(self.itself, WRITES, BY_HOLDER, 0, ()))
+
+
+@dataclass(frozen=True)
+class Timer:
+    """A timer of a process: the signal that it sends, when it does next, in seconds of the clock that only goes on, and how often again."""
+
+    process: int
+    signal: int
+    at: float
+    again: float
+
+    def is_armed(self, now: float) -> bool:
+        return self.at > 0 and (self.at > now or self.again > 0)
+
+
+@dataclass(frozen=True)
+class Last:
+    """What the file has of the whole run: how many signals were sent for each order; the points at which one thread was held back, and another one
+    waited for it before it came to where it was to stand, or 0; whether a thread released what another one had taken; a process that counts itself how
+    many of its threads can go on, and how many, or 0; and how far each point was come to, from 1 on."""
+
+    sent: tuple[int, ...]
+    stands: int
+    waits: int
+    is_handed_over: bool
+    counting: int
+    going: int
+    passed: tuple[int, ...]
 
 
 class Table:
@@ -105,12 +149,23 @@ class Table:
         process, thread, changes, state, order, mode, awaited, depth, held_count, *rest = THREAD.unpack_from(self.raw, start)
         places = [start + THREAD.size + n * HELD.size for n in range(min(held_count, MOST_HELD))]
         held = tuple(self.held_at(place) for place in places)
-        return Thread(process, thread, changes, state, order, mode, awaited, tuple(rest[:min(depth, MOST_CALLERS)]), rest[-1],
+        name, itself, call, point = rest[-4:]
+        return Thread(process, thread, changes, state, order, mode, awaited, tuple(rest[:min(depth, MOST_CALLERS)]), name, itself, call, point,
                       tuple(each for each in held if each.lock))
 
     def held_at(self, start: int) -> Held:
-        lock, mode, depth, orders, *callers = HELD.unpack_from(self.raw, start)
-        return Held(lock, mode, orders, tuple(callers[:depth]))
+        lock, mode, releasing, _, depth, orders, *callers = HELD.unpack_from(self.raw, start)
+        return Held(lock, mode, releasing, orders, tuple(callers[:depth]))
+
+    def timers(self) -> list[Timer]:
+        """All timers that there are."""
+        found = [TIMER.unpack_from(self.raw, FIRST_TIMER + n * TIMER.size) for n in range(MOST_TIMERS)]
+        return [Timer(process, number, at / NANOSECONDS, again / NANOSECONDS) for process, number, at, again, _ in found if process]
+
+    def last(self) -> Last:
+        words = LAST.unpack_from(self.raw, FIRST_OF_LAST)
+        stands, waits, is_handed_over, counting, going = words[MOST_ORDERS:MOST_ORDERS + 5]
+        return Last(words[:MOST_ORDERS], stands, waits, is_handed_over > 0, counting, going, words[MOST_ORDERS + 5:])
 
 
 def cycle_in(threads: list[Thread]) -> list[Thread]:
@@ -136,20 +191,6 @@ def path_back(at: Thread, first: Thread, waiting: list[Thread], behind: set[tupl
         if rest:
             return [at] + rest
     return []
-
-
-def state_of(process: int, thread: int) -> str:
-    """The letter that the kernel has for the state of a thread; empty if it isn't there."""
-    try:
-        with open("/proc/%d/task/%d/stat" % (process, thread), "rb") as file:
-            return file.read().rpartition(b")")[2].split()[0].decode()
-    except (OSError, IndexError):
-        return ""
-
-
-def sleeps(thread: Thread) -> bool:
-    """Whether the kernel has the thread asleep."""
-    return state_of(thread.process, thread.thread) == "S"
 
 
 def name_of_thread(thread: Thread) -> str:

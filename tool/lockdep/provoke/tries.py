@@ -7,29 +7,38 @@ import sys
 from dataclasses import replace
 from typing import FrozenSet, Tuple
 
-from ..ask.happened import entry_of
+from ..ask.happened import entry_of, entry_of_none, with_earlier
+from ..ask.judging import ABSENT
 from ..base.command_line import Words
 from ..base.processes import find_command
-from ..base.saying import write_error
-from ..base.words import class_of_lock, counted, name_in, plain_key
-from ..binaries.symbols import Address
+from ..base.saying import typed, write_error
+from ..base.words import counted
 from ..program.findings import Finding
+from ..places.sources import Sources
+from ..program.verdicts import Reason, Verdict
 from ..record.folder import OF_PROVOKE, SIGNALS, Folder
-from ..record.provoked import Happened, Stood, read_provoked, write_provoked
+from ..say.sentences import Names, title
+from ..record.provoked import Happened, read_provoked, write_provoked
 from ..record.trace_names import traces_in
-from .holders import LIBRARY, Holder
-from .plan import PlannedOrder, foreign_words, is_cycle_of, known_places, orders_at, plan_of
-from .runs import Outcome, Run, Standing, adopt_orphans
-from .table import MOST_ORDERS, Counts, Place, Table
-
-TYPE_CHECKING = False
-if TYPE_CHECKING:
-    from ..record.handlers import Handler
+from .course import Course, course_of, made_histories
+from .holders import Holder
+from .plan import PlannedOrder, foreign_words, is_cycle_of, known_places, plan_of
+from .recorded import Recorded
+from .reasons import Tried, turning, turning_words
+from .runs import Outcome, Run, adopt_orphans
+from .standing import DEFAULT_SURE, Standing, shell_status, status_words
+from .system import text_of_file
+from .table import MOST_ORDERS, Place, Table
+from .ways import Way, Ways, pauses
+from .words import stood
 
 HAPPENED, NOT_HAPPENED, NOTHING_TRIED = 1, 0, 2
 DEFAULT_RUNS = "10"
-OF_THE_SYSTEM = ("libc.so", "libpthread.so", "ld-linux")  # modules whose functions begin each thread
-
+REPEATED = ("--recorder", "--pause", "--while", "--stdin")  # options without which a further try may be another one
+FEW_RUNS = 2  # of a finding that the recording speaks against
+ALSO, SEMAPHORES = "LOCKDEP_ALSO", "sem"  # what names kinds of locks that are watched, too
+MOST_ENDED = 2  # runs for a finding that are ended at their limit
+AGAINST = (Reason.ONE_LOCK, Reason.FEWER_THREADS, Reason.NO_RING)  # what the recording says against a finding
 
 Where = FrozenSet[Tuple[Tuple[Place, ...], Tuple[Place, ...]]]  # threads, by where each waits, and where it took what it holds
 
@@ -47,46 +56,71 @@ def has_input() -> bool:
     return stat.S_ISFIFO(mode) or stat.S_ISREG(mode)
 
 
+def is_watched(finding: Finding) -> bool:
+    """Whether the locks of a cycle are all in the order of steps, or semaphores, which are watched if they are recorded."""
+    return not finding.judged or finding.judged.why != ABSENT or SEMAPHORES in os.environ.get(ALSO, "")
+
+
+def is_spoken_against(finding: Finding) -> bool:
+    """Whether the recording speaks against a finding: then it is tried last, in few runs."""
+    return finding.verdict in (Verdict.APART, Verdict.CLASSES) or (finding.judged is not None and finding.judged.reason in AGAINST)
+
+
 class Tries:
     """The runs of one command for its findings."""
 
-    def __init__(self, recording: str, line: Words, holder: Holder, limit: float) -> None:
-        self.recording, self.holder, self.limit, self.command = recording, holder, limit, line.rest
+    def __init__(self, recording: str, line: Words, holder: Holder, recorded: Recorded, limit: float) -> None:
+        self.recording, self.line, self.holder, self.recorded, self.limit, self.command = recording, line, holder, recorded, limit, line.rest
         self.runs, self.pause, self.given = int(line.last("--runs", DEFAULT_RUNS)), line.last("--pause"), line.last("--stdin")
         self.beside, self.is_kept, self.dumps = line.last("--while"), line.has("--keep"), line.has("--core")
+        self.sure = float(line.last("--sure", str(DEFAULT_SURE)))
         self.room = os.path.join(os.path.realpath(recording), OF_PROVOKE)
+        self.traces: list[str] = []
         self.findings: dict[int, Finding] = {}
         self.plans: dict[int, list[PlannedOrder]] = {}
+        self.courses: dict[int, Course] = {}
         self.happened: list[dict] = []  # also in earlier calls
         self.numbers: set[int] = set()  # of what happened in this one
-        self.is_standing = False
+        self.is_standing = self.is_left = self.is_foreign = False
         self.stood: dict[Where, int] = {}  # which finding threads were that stood at these places; 0: none
 
     def all(self, findings: list[tuple[int, Finding]], traces: list[str]) -> int:
-        """Tries one finding after the other."""
+        """Tries one finding after the other: at last those that the recording speaks against."""
         self.begin(findings, traces)
         if not self.plans:
             return NOTHING_TRIED
-        for number in self.plans:
-            if number not in self.numbers and not (self.is_standing and self.is_kept):
+        left = sorted(self.plans, key=lambda number: is_spoken_against(self.findings[number]))
+        for place, number in enumerate(left):
+            if number not in self.numbers and not self.is_left:
+                if len(left) > 1:
+                    say("finding %d is tried, and then %d more" % (number, len(left) - place - 1))
                 self.one(number)
-        return HAPPENED if self.is_standing else NOT_HAPPENED if self.plans else NOTHING_TRIED
+        return HAPPENED if self.is_standing else NOT_HAPPENED
 
     def begin(self, findings: list[tuple[int, Finding]], traces: list[str]) -> None:
         """Makes the plans, and room for what the runs leave."""
+        self.traces = traces
         known = known_places(self.recording)
+        with made_histories(self.recording) as histories:
+            self.courses = {number: course for number, course in ((number, course_of(finding, histories)) for number, finding in findings) if course}
         for number, finding in findings:
             plan = plan_of(finding, known, self.set_of(finding))
-            if all(planned.holds and planned.wants for planned in plan):
+            if number in self.courses or all(planned.holds and planned.wants for planned in plan):
                 self.findings[number], self.plans[number] = finding, plan
+                if not is_watched(finding):
+                    say("finding %d may have a lock that isn't watched, as of a file, a stream or the loader, or a semaphore without LOCKDEP_ALSO=sem" % number)
                 if len(plan) > MOST_ORDERS:
                     say("finding %d has %d orders: threads are held back at the first %d of them" % (number, len(plan), MOST_ORDERS))
             else:
                 say("finding %d isn't tried: the recording has no places of its orders" % number)
-        for words in foreign_words(self.recording, find_command(self.command[0])[0] or "", traces, list(self.plans.values())):
+        foreign = foreign_words(self.recording, find_command(self.command[0])[0] or "", traces, list(self.plans.values()))
+        self.is_foreign = bool(foreign)
+        for words in foreign:
             say(words)
-        if not self.plans:
-            return
+        if self.plans:
+            self.make_room()
+
+    def make_room(self) -> None:
         self.happened = read_provoked(self.recording)
         os.makedirs(self.room, exist_ok=True)
         write_provoked(self.recording, self.happened)
@@ -96,8 +130,8 @@ class Tries:
         adopt_orphans()
         if not self.given and has_input():
             say("standard input is empty in these runs; --stdin FILE gives them one")
-        say("%d finding%s to provoke, each by %d runs at most; their output goes to %s" % (
-            len(self.plans), "" if len(self.plans) == 1 else "s", self.runs, os.path.join(self.recording, OF_PROVOKE)))
+        say("%s to provoke, each by %s at most; their output goes to %s" % (
+            counted(len(self.plans), "finding"), counted(self.runs, "run"), os.path.join(self.recording, OF_PROVOKE)))
 
     def set_of(self, finding: Finding) -> list[str]:
         """The traces of the handler that a finding has; none if it has none."""
@@ -105,31 +139,77 @@ class Tries:
 
     def one(self, number: int) -> None:
         """Tries one finding, and says what came of it."""
-        path = os.path.join(self.room, "plan-%d" % number)
-        with open(path, "w", encoding="utf-8", errors="surrogateescape") as file:
-            for place, planned in enumerate(self.plans[number][:MOST_ORDERS], 1):
-                file.write("\n".join(planned.lines(place)) + "\n")
-        statuses: set[int] = set()
-        for count in range(1, self.runs + 1):
+        plan, course = self.plans[number], self.courses.get(number)
+        tried = Tried(plan, is_watched=is_watched(self.findings[number]))
+        ways = Ways(len(plan), course is not None, self.pause, self.recorded.seconds)
+        most = min(self.runs, FEW_RUNS) if is_spoken_against(self.findings[number]) else self.runs
+        count = 0
+        while count < most and tried.ended < MOST_ENDED:
+            count += 1
+            self.tell_run(number, count, most)
+            way = ways.next(count)
             table = Table(os.path.join(self.room, "table-%d-%d" % (number, count)))
-            outcome = self.run(number, count, path, table)
-            statuses.add(outcome.status or 0)
+            outcome = self.run(number, count, way, table)
+            tried.take(outcome, table)
+            last = table.last()
             table.remove()
-            if outcome.standing and self.take(number, count, outcome):
+            if outcome.standing and self.take(number, count, outcome, last.sent):
                 return
             if outcome.is_too_long:
-                say("run %d for finding %d took longer than %d seconds, and was ended" % (count, number, self.limit))
-        failed = statuses.pop() if len(statuses) == 1 else 0
-        say("finding %d: not in %d runs: %s%s" % (
-            number, self.runs, why_not(table, self.plans[number]), "; each run ended with status %d" % failed if failed else ""))
+                say("run %d for finding %d took longer than %d seconds, and was ended while %s" % (count, number, self.limit, tried.waited))
+            elif self.has_failed(outcome):
+                tried.failed.append(outcome.status or 0)
+                say("run %d for finding %d ended with %s, and the recorded one didn't: pauses are shorter from here on" % (
+                    count, number, status_words(outcome.status or 0)))
+                ways.shorten()
+            elif way.is_scheduled and course and not outcome.standing and not tried.turned_off and not self.is_foreign:
+                turn = turning(course, last)
+                tried.turned_off, tried.is_refuted = (turning_words(turn, count), not turn.is_late) if turn else ("", False)
+            ways.once, ways.is_refuted = tried.come_to_once(), bool(tried.turned_off)
+        why = "not in %s: %s" % (counted(count, "run"), tried.words(self.spoken_words(self.findings[number])))
+        say("finding %d: %s" % (number, why))
+        self.keep(entry_of_none(number, self.findings[number], why, tried.turned_off if tried.is_refuted else ""), count)
 
-    def run(self, number: int, count: int, plan: str, table: Table) -> Outcome:
+    def tell_run(self, number: int, count: int, most: int) -> None:
+        """On a terminal, where somebody waits: which run goes on, and how many findings come after this one."""
+        if sys.stderr.isatty():
+            left = sum(each > number for each in self.plans)
+            say("finding %d: run %d of %d%s" % (number, count, most, ", and then %s" % counted(left, "finding") if left else ""))
+
+    def spoken_words(self, finding: Finding) -> str:
+        """What the recording says against a finding, and the first step that shows it."""
+        if not is_spoken_against(finding):
+            return ""
+        from ..ask.verdict import Recorded as Known
+        from ..places.sources import sources_of
+        from ..record import summary
+        from ..say.judged import judged_lines
+        from ..say.verdict_words import judged_words
+        ring = finding.judged.ring if finding.judged else None
+        between = next((place for place, forced in enumerate(ring.because if ring else ()) if forced.after), 0)
+        lines = judged_lines(finding, sources_of([finding]))[between:between + 1]
+        return ": ".join([judged_words(finding, Known(self.traces, summary.read(self.recording)))] + lines)
+
+    def has_failed(self, outcome: Outcome) -> bool:
+        """Whether a run ended as the recorded one didn't, of which that is known. The recorder has the status of a command that a signal ended as a shell does."""
+        return bool(outcome.status) and self.recorded.status not in (None, shell_status(outcome.status or 0))
+
+    def write_plan(self, number: int, way: Way) -> str:
+        path, plan, course = os.path.join(self.room, "plan-%d" % number), self.plans[number][:MOST_ORDERS], self.courses.get(number)
+        with open(path, "w", encoding="utf-8", errors="surrogateescape") as file:
+            for head, planned in zip(pauses(way, len(plan)), plan):
+                file.write("\n".join([head, *planned.lines()]) + "\n")
+            if way.is_scheduled and course:
+                file.write("\n".join(course.lines(way.long, way.pause)) + "\n")
+        return path
+
+    def run(self, number: int, count: int, way: Way, table: Table) -> Outcome:
         output = os.open(os.path.join(self.room, "output-%d-%d" % (number, count)), os.O_WRONLY | os.O_CREAT | os.O_TRUNC, 0o666)
-        run = Run(self.command, self.holder, plan, table, self.pause, self.given, output, self.beside, self.dumps)
+        run = Run(self.command, self.holder, self.write_plan(number, way), table, way, self.given, output, self.beside, self.dumps)
         os.close(output)
         outcome = Outcome()
         try:
-            outcome = run.outcome(self.limit)
+            outcome = run.outcome(self.limit, self.sure)
         finally:
             if outcome.standing and self.is_kept:
                 run.load.end()
@@ -137,109 +217,66 @@ class Tries:
                 run.end(outcome.process)
         return outcome
 
+    # ---- What happened.
+
     def finding_of(self, number: int, standing: list[Standing]) -> tuple[int, list[Standing]]:
         """The number of the finding that these threads are: the one that is tried, or another one that is planned, or 0 if it is none; and the
         threads with what is known of their locks by that one's plan."""
-        if is_cycle_of(standing, self.plans[number]):
+        cycle, course = [thread for thread in standing if not thread.is_writer], self.courses.get(number)
+        stops = {step.number for step in course.stops()} if course else set()
+        points = {thread.point for thread in standing if thread.point}
+        if (points and points == stops) or is_cycle_of(cycle, self.plans[number]):
             return number, standing
-        others = [replace(thread, orders=0) for thread in standing]
-        return next((each for each in self.plans if is_cycle_of(others, self.plans[each])), 0), others
+        others = [replace(thread, orders=0, point=0) for thread in standing]
+        cycle = [thread for thread in others if not thread.is_writer]
+        return next((each for each in self.plans if is_cycle_of(cycle, self.plans[each])), 0), others
 
-    def take(self, number: int, count: int, outcome: Outcome) -> bool:
+    def take(self, number: int, count: int, outcome: Outcome, sent: tuple[int, ...]) -> bool:
         """Says what happened. Whether no further run is needed for the finding: it happened, or a cycle that is none of those that were found."""
         found, standing = self.finding_of(number, outcome.standing or [])
         where = frozenset((tuple(thread.waits), tuple(thread.holds[:1])) for thread in standing)
         found = self.stood[where] = found or self.stood.get(where, 0)
-        self.is_standing = True
+        is_sure = not outcome.doubts
+        self.is_standing |= not any(doubt.is_usual for doubt in outcome.doubts)
         if found in self.numbers and not self.is_kept:
             return found == 0
-        say("run %d: %s: the program stands still" % (
-            count, "finding %d happened" % found if found else "a cycle that is none of these findings happened"))
-        happened = Happened(count, [stood(thread, self.plans[found] if found else []) for thread in standing])
-        sys.stdout.write("".join(line + "\n" for line in ([self.findings[found].head] if found else []) + happened.lines()))
+        what = "finding %d" % found if found else "a cycle that is none of these findings"
+        doubts = tuple(doubt.words for doubt in outcome.doubts)
+        say("run %d: %s happened: the program stands still" % (count, what) if is_sure else
+            "run %d: %s stood still for %.1f s; %s" % (count, what, outcome.stood, "; ".join(doubts)))
+        plan, course = (self.plans[found], self.courses.get(found)) if found else ([], None)
+        happened = Happened(count, stood(standing, plan, course), 0.0 if is_sure else round(outcome.stood, 1), doubts, self.sent_words(found, sent))
+        sys.stdout.write("".join(line + "\n" for line in self.title_of(found) + happened.lines()))
         sys.stdout.flush()
-        if self.is_kept:
-            say("process %d is left standing: `gdb -p %d` looks at it, and `kill %d` ends it" % ((outcome.process,) * 3))
-        self.keep(found, happened)
+        self.leave(outcome)
+        self.numbers.add(found)
+        self.keep(entry_of(found, self.findings.get(found), happened, outcome.builds, self.core_words(outcome.process)), count if found == number else 1)
         return found in (0, number) or self.is_kept
 
-    def keep(self, found: int, happened: Happened) -> None:
-        """Writes down what happened, in the place of what an earlier call had of the same finding."""
-        said = entry_of(found, self.findings.get(found), happened)
-        self.numbers.add(found)
-        self.happened = [other for other in self.happened if not said["lines"] or other.get("lines") != said["lines"]] + [said]
+    def title_of(self, found: int) -> list[str]:
+        """What is wrong, in a line, if it is a finding."""
+        return ["%d. %s" % (found, title(self.findings[found], Names([self.findings[found]], Sources())))] if found else []
+
+    def leave(self, outcome: Outcome) -> None:
+        """Says which process is left standing, if that was asked for."""
+        self.is_left = self.is_kept
+        if self.is_kept:
+            say("process %d is left standing: `gdb -p %d` looks at it, and `kill %d` ends it" % ((outcome.process,) * 3))
+
+    def sent_words(self, found: int, sent: tuple[int, ...]) -> str:
+        """Which signal this command sent to the program, if it did."""
+        signals = [planned.handler.signal for planned, times in zip(self.plans.get(found, []), sent) if planned.handler and times]
+        return "%s was sent by `lockdep provoke`" % signals[0] if signals else ""
+
+    def core_words(self, process: int) -> str:
+        """What became of the core dump of a process, if one was asked for."""
+        pattern = text_of_file("/proc/sys/kernel/core_pattern").strip()
+        return "of process %d, by the system's core_pattern: %s" % (process, pattern) if self.dumps and process else ""
+
+    def keep(self, said: dict, runs: int) -> None:
+        """Writes down what is known of a finding by its runs, with what earlier calls had."""
+        options = [word for name in REPEATED if self.line.has(name) for word in (name, self.line.last(name))]
+        options += ["--finding", str(said["finding"])] if said["finding"] else []  # (0 is a cycle that is none of them)
+        again = ["lockdep", "provoke", "--from", self.recording, *options, "--", *self.command]
+        self.happened = with_earlier(said, self.happened, runs, " ".join(map(typed, again)))
         write_provoked(self.recording, self.happened)
-
-
-def counts_of(table: Table, plan: list[PlannedOrder]) -> dict[int, Counts]:
-    """The counts of the orders by their numbers. Several orders of the same places have those of the first of them."""
-    firsts: dict[tuple[str, ...], int] = {}
-    for order, planned in enumerate(plan[:MOST_ORDERS], 1):
-        firsts.setdefault(tuple(planned.lines(0)), order)
-    return {order: table.counts(order - 1) for order in firsts.values()}
-
-
-def why_not(table: Table, plan: list[PlannedOrder]) -> str:
-    """Why nothing happened in the last run, by its counts."""
-    counts = counts_of(table, plan)
-    aside = [order for order, count in counts.items() if count.aside]
-    if aside:
-        return "the second lock of order %d is one of asyncio, whose tasks aren't held back" % aside[0]
-    missed = [order for order, count in counts.items() if not count.reached]
-    if missed:
-        return "%s by a wait without an end" % never_came(missed[0], plan)
-    alone = [order for order, count in counts.items() if not count.under]
-    if alone:
-        first = plan[alone[0] - 1]
-        return never_came(alone[0], plan) + (" in a thread that held %s" % classes_of(first)[0] if first.handler else " with the first one held")
-    if len(plan) == 1 and plan[0].handler:
-        return went_on_words(plan[0].handler, plan[0], counted(counts[1].under, "time"))
-    return "its orders were never under way at once (they were reached %s times)" % " and ".join(str(count.under) for count in counts.values())
-
-
-def went_on_words(handler: Handler, planned: PlannedOrder, times: str) -> str:
-    """That a handler didn't wait for ever for the lock that its thread held. No signal is sent at the moment in which a lock doesn't know its owner."""
-    lock = classes_of(planned)[1]
-    if handler.is_narrow(planned.order.end):
-        return ("the handler for %s came to %s %s in a thread that held it, and didn't wait: %s knows its owner, but for narrow moments, in which no "
-                "signal is sent") % (handler.signal, lock, times, lock)
-    return "the handler for %s waited for %s %s, and went on each time" % (handler.signal, lock, times)
-
-
-def never_came(order: int, plan: list[PlannedOrder]) -> str:
-    """That nobody came to the second lock of an order: for that of a signal this is the lock that its handler takes."""
-    planned = plan[order - 1]
-    if planned.handler:
-        return "the handler for %s was never seen to come to %s" % (planned.handler.signal, classes_of(planned)[1])
-    return "no thread was seen to come to the second lock of order %d" % order
-
-
-# ---- What a person reads.
-
-
-def stood(thread: Standing, plan: list[PlannedOrder]) -> Stood:
-    """A thread that stands still, as it is told."""
-    return Stood(thread.number, thread.name, locks_of(thread, plan), shown_places(thread.waits), shown_places(thread.holds))
-
-
-def locks_of(thread: Standing, plan: list[PlannedOrder]) -> str:
-    """What a thread holds and waits for, by classes. Locks of one class are told apart as the run has them, since a number that the recording
-    gave to one says nothing of another run."""
-    numbers = orders_at(thread, plan)
-    start, end = classes_of(plan[min(numbers) - 1]) if numbers else ("a lock", "a lock" if thread.awaited == thread.held else "another")
-    behind = ", behind a writer that waits" if thread.is_behind else ""
-    if thread.awaited == thread.held:
-        return "holds %s and waits for it%s" % (start, behind)
-    if numbers and start == end:
-        start, end = "%s %s" % (start, thread.held), "%s %s" % (end, thread.awaited)
-    return "holds %s and waits for %s%s" % (start, end, behind)
-
-
-def classes_of(planned: PlannedOrder) -> tuple[str, str]:
-    start, end = (plain_key("%s/%s" % (class_of_lock(name_in(key)), key.rpartition("/")[2])) for key in (planned.order.start, planned.order.end))
-    return start, end
-
-
-def shown_places(places: list[Place]) -> tuple[Address, ...]:
-    """Without those of this tool and of the C library."""
-    return tuple(Address(*place) for place in places if not os.path.basename(place[0]).startswith((LIBRARY,) + OF_THE_SYSTEM))

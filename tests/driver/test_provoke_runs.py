@@ -1,0 +1,309 @@
+"""How runs of `lockdep provoke` go by a schedule, how they differ, and what could end a standstill."""
+from __future__ import annotations
+
+import dataclasses
+import os
+import signal
+import subprocess
+import tempfile
+import time
+import unittest
+from unittest import mock
+
+from cases import between, circle, finding
+from lockdep.ask.happened import turn_off
+from lockdep.binaries.symbols import Address
+from lockdep.program.events import Event, Held as Holds
+from lockdep.program.schedules import POSSIBLE, Place, Ring, Waiting
+from lockdep.program.verdicts import Judgement, Reason, Verdict
+from lockdep.provoke import course as provoke_course, recorded, standing, system
+from lockdep.provoke.course import History, course_in
+from lockdep.provoke.reasons import KEPT_BACK, LATE, NOT_COME, Tried, turning
+from lockdep.provoke.recorded import Recorded, Stillness
+from lockdep.provoke.runs import Outcome
+from lockdep.provoke.standing import Doubt, doubts
+from lockdep.provoke.table import (BY_ANYBODY, BY_HOLDER, BY_OTHERS, IN_LOCK, INTERRUPTIBLE, MOST_ORDERS, MOST_POINTS, WAITS, WRITES, Counts, Held, Last, Modules, Table,
+                                   Thread, Timer)
+from lockdep.provoke.tries import Tries
+from lockdep.provoke.ways import LONG_PAUSE, Ways
+
+HISTORY = """history,1
+thread,thread:t1
+thread,thread:t2
+main,give,1
+main,give,2
+main,give,3
+t1,get,2
+t1,take,thread:t1,tw
+t1,take,g,w
+t1,release,g
+t1,take,a,w
+t1,take,b,w
+t1,release,b
+t1,release,a
+t2,get,3
+t2,take,thread:t2,tw
+t2,take,g,w
+t2,release,g
+t2,take,b,w
+t2,take,a,w
+"""
+CALLS = {9: 1, 11: 2, 12: 2, 17: 1, 19: 2, 20: 3}  # of the records that take: where they are called
+
+
+class Calls:
+    """The calls of the records, in the place of the files that a history has beside it."""
+
+    def __init__(self, name: str) -> None:
+        self.name = name
+
+    def callers(self, record: int) -> list[Address]:
+        return [Address("/no/program", CALLS[record])] if record in CALLS else []
+
+
+def waiting(task: str, record: int, lock: str, held: str, since: int) -> Waiting:
+    return Waiting(Place(task, Event("h.csv", record)), lock, "w", (Holds(held, "w", Event("h.csv", since)),))
+
+
+RING = Ring(POSSIBLE, False, (waiting("t1", 12, "b", "a", 11), waiting("t2", 20, "a", "b", 19)),
+            (Place("t1", Event("h.csv", 11)), Place("main", Event("h.csv", 6)), Place("t2", Event("h.csv", 19))), ())
+
+
+def last(stands: int = 0, waits: int = 0, passed: tuple[int, ...] = ()) -> Last:
+    return Last((0,) * MOST_ORDERS, stands, waits, False, 0, 0, (0,) + passed + (0,) * (MOST_POINTS - len(passed)))
+
+
+class ACourse(unittest.TestCase):
+    def setUp(self) -> None:
+        with tempfile.TemporaryDirectory() as folder, mock.patch.object(provoke_course, "Places", Calls):
+            path = os.path.join(folder, "h.csv")
+            with open(path, "w") as file:
+                file.write(HISTORY)
+            self.course = course_in(RING, History(path, RING))
+
+    def test_threads_are_known_by_their_starts_and_steps_by_their_calls(self) -> None:
+        """The first thread that main starts takes no step. The lock g is taken in the order of the schedule; where t1 waits it has not taken b."""
+        self.assertEqual(self.course.lines(5000, 30), [
+            "thread 2", "take-1 1 /no/program", "take-1 2 /no/program", "take-2 2 /no/program", "stop 1 5000",
+            "thread 3", "take-1 1 /no/program", "take-1 2 /no/program", "take-1 3 /no/program", "stop 2 5000",
+            "after 4 1 30"])
+
+    def test_the_locks_of_a_stop(self) -> None:
+        self.assertEqual([self.course.locks_at(stop) for stop in self.course.stops()], [("a", "b"), ("b", "a")])
+
+    def test_where_a_thread_turns_off(self) -> None:
+        rows = (
+            ("all come", last(passed=(3, 2, 1, 3, 2, 1)), None),
+            ("one ends after its first step", last(passed=(3, 2, 1, 3)), (19, NOT_COME % "task t2", False)),
+            ("one never begins", last(passed=(3, 2, 1)), (17, NOT_COME % "task t2", False)),
+            ("one ends when the other has gone on by the time", last(3, 0, (3, 2, 3, 3)), (19, NOT_COME % "task t2", True)),
+            ("one waits for a lock of the other", last(3, 4, (3, 2, 1, 1)), (17, KEPT_BACK % ("task t2", "task t1"), False)),
+            ("one comes when the other goes on", last(3, 0, (3, 2, 3, 3, 2, 1)), (20, LATE % ("task t2", "task t1"), True)))
+        for name, what, wanted in rows:
+            found = turning(self.course, what)
+            self.assertEqual((found.step.record, found.why, found.is_late) if found else None, wanted, name)
+
+    def test_what_turned_off_is_not_shown(self) -> None:
+        for verdict, then in ((Verdict.POSSIBLE, Verdict.NOT_SHOWN), (Verdict.BY_JOIN, Verdict.NOT_SHOWN), (Verdict.NOT_KNOWN, Verdict.NOT_KNOWN)):
+            one = finding(circle("a/0", "b/0", between=between("locks", circle("a/0", "b/0"))))
+            one.judged = Judgement(verdict, ring=RING)
+            turn_off(one, "run 1 turned off at a.c:3")
+            self.assertEqual((one.verdict, one.judged.ring), (then, RING))
+            self.assertEqual(one.judged.reason, Reason.TURNED_OFF if then is Verdict.NOT_SHOWN else None)
+
+
+class TheWays(unittest.TestCase):
+    def said(self, ways: Ways, runs: int) -> list[tuple[bool, int]]:
+        return [(way.is_scheduled, way.waits) for way in map(ways.next, range(1, runs + 1))]
+
+    def test_the_schedule_comes_first_and_then_each_order_that_is_come_to_once_waits_long(self) -> None:
+        ways = Ways(2, True, "", 0)
+        ways.once = {1, 2}
+        self.assertEqual(self.said(ways, 4), [(True, 0), (False, 1), (False, 2), (True, 0)])
+        ways.once = {2}
+        self.assertEqual(self.said(ways, 3), [(True, 0), (False, 0), (False, 2)])
+        ways.is_refuted = True
+        self.assertEqual(self.said(ways, 3), [(True, 0), (False, 0), (False, 0)])
+
+    def test_without_a_schedule(self) -> None:
+        ways = Ways(2, False, "", 0)
+        ways.once = {1, 2}
+        self.assertEqual(self.said(ways, 3), [(False, 1), (False, 2), (False, 1)])
+
+    def test_pauses_are_shorter_when_they_made_the_program_fail(self) -> None:
+        ways = Ways(2, True, "", 60)
+        found = [ways.next(1)]
+        for _ in range(3):
+            ways.shorten()
+            found.append(ways.next(1))
+        self.assertEqual([(way.long, way.pause) for way in found], [(90000, 300), (300, 100), (100, 30), (30, 30)])
+        self.assertEqual((Ways(2, True, "", 1).next(1).long, Ways(2, True, "50", 1).next(1).pause), (LONG_PAUSE, 50))
+
+
+def thread(number: int, awaited: int, held: int, releasing: int, call: int = IN_LOCK) -> Thread:
+    return Thread(os.getpid(), number, 1, WAITS, 1, WRITES, awaited, (), 0, 0, call, 0, (Held(held, WRITES, releasing, 0, ()),))
+
+
+class WhatCameOfIt(unittest.TestCase):
+    def test_orders_of_one_place_are_come_to_once_each(self) -> None:
+        for lines, reached, once in ((("x", "x"), 2, {1}), (("x", "x"), 3, set()), (("x", "y"), 2, set()), (("x", "y"), 1, {1})):
+            tried = Tried([mock.Mock(lines=lambda line=line: [line]) for line in lines], {1: Counts(reached, 0, 0, 0)})
+            self.assertEqual(tried.come_to_once(), once, (lines, reached))
+
+    def test_what_waited_at_the_limit_is_the_reason(self) -> None:
+        self.assertEqual(Tried([], ended=1, waited="thread 1 waited").words(""), "1 run was ended at the limit while thread 1 waited")
+
+    def test_a_run_that_failed_is_no_reason_for_the_others(self) -> None:
+        """Only if all runs ended as the recorded one didn't, the finding wasn't tried. A signal has the number of the run's status, below 0."""
+        missed = [mock.Mock(handler=None)]
+        rows = (([-6], 10, "1 of 10 runs ended with SIGABRT, and the recorded one didn't; no thread was seen to come to the second lock of order 1 by a wait without an end"),
+                ([-6, 3, -6], 4, "3 of 4 runs ended with SIGABRT or status 3, and the recorded one didn't; "
+                                 "no thread was seen to come to the second lock of order 1 by a wait without an end"),
+                ([3], 1, "holding threads back made the program end with status 3"))
+        for failed, runs, wanted in rows:
+            self.assertEqual(Tried(missed, {1: Counts(0, 0, 0, 0)}, runs=runs, failed=failed).words(""), wanted)
+
+    def test_a_signal_that_ended_the_recorded_run_too(self) -> None:
+        """The recorder's status is a shell's: 143 for SIGTERM, which is number 15."""
+        for recorded, status, wanted in ((143, -15, False), (143, -6, True), (0, -15, True), (3, 3, False), (0, 3, True), (None, 3, False), (143, 0, False)):
+            tries = mock.Mock(recorded=Recorded(1.0, recorded))
+            self.assertEqual(Tries.has_failed(tries, Outcome(status=status)), wanted, (recorded, status))
+
+    def test_which_run_goes_on_is_said_on_a_terminal(self) -> None:
+        tries = mock.Mock(spec=Tries, plans={1: [], 3: []})
+        for is_terminal, said in ((True, ["finding 1: run 2 of 10, and then 1 finding"]), (False, [])):
+            with mock.patch("lockdep.provoke.tries.say") as say, mock.patch("sys.stderr", mock.Mock(isatty=lambda: is_terminal)):
+                Tries.tell_run(tries, 1, 2, 10)
+            self.assertEqual([call.args[0] for call in say.call_args_list], said)
+
+
+class TheWatch(unittest.TestCase):
+    def setUp(self) -> None:
+        table, self.gone = mock.Mock(spec=Table), False
+        table.threads.return_value = [thread(1, 20, 10, BY_HOLDER), thread(2, 10, 20, BY_HOLDER)]
+        self.watch = standing.Watch(table, mock.Mock(), 1.0)
+
+    def looks(self, seconds: float, count: int) -> list[bool]:
+        """Whether two threads have stood for a second, at looks that are so many seconds apart."""
+        clock = iter(range(1, count + 1))
+        with mock.patch.multiple(standing, is_asleep=lambda _: True, are_gone=lambda _: self.gone, doubts=lambda *_: [], described=lambda *_: ["stands"]), \
+                mock.patch.object(standing.time, "monotonic", lambda: seconds * next(clock)):
+            return [self.watch.look() for _ in range(count)]
+
+    def test_threads_stand_for_a_time_that_was_seen(self) -> None:
+        self.assertEqual(self.looks(0.021, 50).index(True), 48)
+
+    def test_where_the_machine_stood_nothing_is_sure(self) -> None:
+        self.assertEqual((self.looks(100.0, 10), self.watch.still), ([False] * 10, True))
+
+    def test_threads_that_are_gone_stand_no_longer(self) -> None:
+        """(So their run is over at its limit.)"""
+        self.looks(0.021, 10)
+        self.gone = True
+        self.assertEqual((self.looks(0.021, 1), self.watch.still), ([False], False))
+
+    def test_who_ends_it_may_be_gone_when_that_is_looked_for(self) -> None:
+        """Another process releases a lock and ends while it is looked for what could end the standstill: nothing is left that could, but the threads go on."""
+        def looks_on(*_: object) -> list[Doubt]:
+            self.watch.table.threads.return_value = []
+            return []
+        self.looks(0.021, 47)
+        with mock.patch.multiple(standing, is_asleep=lambda _: True, are_gone=lambda _: False, doubts=looks_on), \
+                mock.patch.object(standing.time, "monotonic", lambda: 0.021 * 48):
+            self.assertFalse(self.watch.look())
+
+    def test_each_process_has_places_in_its_own_program(self) -> None:
+        """A child that runs another program shares a lock, and not the addresses of code."""
+        class Programs(Modules):
+            def __init__(self, thread: Thread, table: Table) -> None:
+                self.parts, self.bases = [(0, 100, "/program/%d" % thread.process)], {"/program/%d" % thread.process: 0}
+        both = [dataclasses.replace(thread(1, 20, 10, BY_HOLDER), process=5, callers=(7,)), dataclasses.replace(thread(2, 10, 20, BY_HOLDER), process=6, callers=(8,))]
+        self.watch.table.threads.return_value = both
+        self.assertEqual([each.waits for each in standing.described(both, self.watch.table, Programs)], [[("/program/5", 7)], [("/program/6", 8)]])
+
+    def test_the_recorded_run_stands_still_if_that_is_seen_often(self) -> None:
+        still, clock = Stillness(), iter(range(100, 10000, 100))
+        with mock.patch.multiple(recorded, calls_of=lambda _: [["202", "0x1", "0x0", "0x2", "0x0"]], recorded_below=lambda _: []), \
+                mock.patch.object(recorded.time, "monotonic", lambda: still.looked + next(clock)):
+            self.assertEqual([still.is_sure(1) for _ in range(22)].index(True), 20)
+
+
+class WhatCouldEndIt(unittest.TestCase):
+    def found(self, releasing: int, going: int, call: int = IN_LOCK, timers: tuple[Timer, ...] = (), family: tuple[int, ...] = (), caught: int = 14) -> list[Doubt]:
+        table = mock.Mock(spec=Table)
+        table.timers.return_value, table.last.return_value = timers, last()
+        with mock.patch.object(standing, "going_on", return_value=going), mock.patch.object(standing, "is_caught", lambda process, number: number == caught), \
+                mock.patch.multiple(standing, descendants=lambda process: list(family), first_of_run=lambda process: process, goes_on=lambda process, stuck: process > 0):
+            return doubts([thread(1, 20, 10, releasing, call), thread(2, 10, 20, releasing)], table)
+
+    def test_other_threads(self) -> None:
+        nobody = [Doubt("2 other threads can go on, though no thread may release what another one holds", False)]
+        rows = ((0, 0, IN_LOCK, []), (0, 2, IN_LOCK, nobody), (BY_HOLDER, 2, IN_LOCK, []),
+                (BY_OTHERS, 1, IN_LOCK, [Doubt("1 other thread can go on, and any thread may release such a lock", False)]),
+                (BY_ANYBODY, 1, IN_LOCK, [Doubt("1 other thread can go on, and any thread may release such a lock", True)]),
+                (BY_HOLDER, 0, INTERRUPTIBLE, []),
+                (BY_HOLDER, 1, INTERRUPTIBLE, [Doubt("1 other thread can go on, and may interrupt one of these", True)]))
+        for releasing, going, call, wanted in rows:
+            self.assertEqual(self.found(releasing, going, call), wanted, (releasing, going, call))
+
+    def test_what_a_shell_has_left_is_of_the_run(self) -> None:
+        """Not what another child of this command has started, as the load of a server."""
+        with mock.patch.multiple(standing, children_of=lambda _: [5, 6, 7], session_of=lambda process: {5: 5, 6: 5, 7: 7}[process], descendants=lambda process: [10 * process]):
+            self.assertEqual(standing.left_by(5), [6, 60])
+
+    def test_a_signal_that_all_threads_block_ends_nothing(self) -> None:
+        """As that of a timer whose handler is where the only thread stands."""
+        before = signal.signal(signal.SIGUSR2, lambda *_: None)
+        self.assertTrue(standing.is_caught(os.getpid(), signal.SIGUSR2))
+        signal.pthread_sigmask(signal.SIG_BLOCK, [signal.SIGUSR2])
+        try:
+            self.assertFalse(standing.is_caught(os.getpid(), signal.SIGUSR2))
+        finally:
+            signal.pthread_sigmask(signal.SIG_UNBLOCK, [signal.SIGUSR2])
+            signal.signal(signal.SIGUSR2, before)
+
+    def test_other_processes(self) -> None:
+        handler = [Doubt("1 other process goes on, and may send a signal that has a handler: SIGUSR1", False)]
+        awaited = [Doubt("2 other processes go on, and may be awaited by what interrupts one of these", False)]
+        for call, family, caught, wanted in ((IN_LOCK, (7,), 10, handler), (IN_LOCK, (-7,), 10, []), (IN_LOCK, (), 10, []), (IN_LOCK, (7,), 11, []),
+                                             (IN_LOCK, (7,), 34, []), (INTERRUPTIBLE, (7, 8), 0, awaited)):
+            self.assertEqual(self.found(BY_HOLDER, 0, call, family=family, caught=caught), wanted, (call, family, caught))
+
+    def test_processes_that_wait_only_for_stuck_ones(self) -> None:
+        waits_for = {2: {1}, 3: {2}, 4: {5}, 5: {4, 6}, 6: {7}}
+        with mock.patch.object(standing, "goes_on", lambda process, stands: not waits_for.get(process, {0}) <= stands):
+            self.assertEqual(standing.going_beside({1}, set(range(2, 7))), {4, 5, 6})
+
+    def test_who_waits_only_in_turn_goes_on(self) -> None:
+        """Threads that wake one another all wait where each is looked at, but not at the same time."""
+        sleeps = iter(({5: "1", 6: "7"}, {5: "2", 6: "7"}) * 2)
+        with mock.patch.multiple(standing, is_endless=lambda *_: True, goes_on=lambda *_: False, sleeps_of=lambda _: next(sleeps), tasks_of=lambda _: [5, 6]):
+            self.assertEqual(standing.going_on([thread(4, 20, 10, BY_ANYBODY)], mock.Mock(spec=Table, last=last)), 1)
+            self.assertEqual(standing.going_beside({1}, {2}), {2})
+        own = os.getpid()
+        before = system.sleeps_of(own)
+        time.sleep(0.001)
+        self.assertNotEqual(system.sleeps_of(own), before)
+
+    def test_a_child_or_a_pipe_that_is_waited_for(self) -> None:
+        own = os.getpid()
+        with subprocess.Popen(["cat"], stdin=subprocess.PIPE) as reader:
+            while system.call_of(reader.pid, reader.pid)[:1] != [system.READ] or system.state_of(reader.pid, reader.pid) != standing.ASLEEP:
+                time.sleep(0.001)
+            self.assertEqual([system.is_endless(reader.pid, reader.pid, stands) for stands in ({own}, {own + 1})], [True, False])
+            rows = ((["61", "0x7"], {7}), (["61", "0xffffffff"], {reader.pid}), (["247", "0x1", "0x7"], {7}), (["247", "0x0", "0x7"], {reader.pid}))
+            for call, wanted in rows:
+                self.assertEqual(system.children_awaited(own, call), wanted, call)
+
+    def test_timers(self) -> None:
+        own, now = os.getpid(), time.monotonic()
+        armed = [Doubt("a timer is armed, and SIGALRM has a handler", True)]
+        rows = ((Timer(own, 14, now + 60, 0), armed), (Timer(own, 14, now - 1, 0), []), (Timer(own, 14, now - 1, 1), armed), (Timer(own, 14, 0, 1), []),
+                (Timer(own, 10, now + 60, 0), []), (Timer(own + 1, 14, now + 60, 0), []),
+                (Timer(own, -1, now + 60, 0), [Doubt("a timer is armed that runs a function", True)]))
+        for timer, wanted in rows:
+            self.assertEqual(self.found(BY_HOLDER, 0, timers=(timer,)), wanted, timer)
+
+
+if __name__ == "__main__":
+    unittest.main()

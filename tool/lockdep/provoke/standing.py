@@ -1,0 +1,333 @@
+"""Threads that wait for one another in a provoked run: how they stand, for how long, and what could end that."""
+from __future__ import annotations
+
+import os
+import signal
+import time
+from dataclasses import dataclass
+
+from ..base.files import contents
+from ..base.words import counted
+from ..binaries.elf import build_words
+from ..binaries.symbols import Address
+from .holders import LIBRARY
+from .system import ENDED, children_of, descendants, is_endless, link_of, parent_of, session_of, sleeps_of, state_of, tasks_of, text_of_file
+from .table import (BY_ANYBODY, BY_HOLDER, BY_OTHERS, IN_CONDITION, IN_JOIN, IN_ONCE, IN_SEMAPHORE, IN_SPIN, INTERRUPTIBLE, READS_BEHIND, RUNS_FUNCTION, SHARED_LOCK,
+                    WAITS, WRITES, Held, Modules, Place, Table, Thread, cycle_in)
+
+ASLEEP = "S"  # the state of a thread, as the kernel has it
+RUNNING = "R"
+DEFAULT_SURE = 5.0  # seconds for which threads have to stand
+LOOK = 0.02  # seconds from one look to the next
+LONGEST_LOOK = 2 * LOOK  # that counts: where the machine stood meanwhile, what could end a standstill stood too
+LOOKS_STILL = 0.2  # seconds after which it is said that threads stood, if they go on later
+WAITS_IN = {IN_CONDITION: "to be woken", IN_JOIN: "for a thread's end", IN_ONCE: "for what runs once", IN_SEMAPHORE: "for a semaphore", IN_SPIN: "for a spin lock"}
+OF_THE_SYSTEM = ("libc.so", "libpthread.so", "ld-linux")  # modules whose functions begin each thread
+CAUGHT, BLOCKED = b"SigCgt:", b"SigBlk:"  # begin lines of what the system says of a process, and of a thread
+OF_FAULTS = {signal.SIGSEGV, signal.SIGBUS, signal.SIGFPE, signal.SIGILL, signal.SIGTRAP, signal.SIGABRT, signal.SIGSYS}
+FIRST_OF_SYSTEM = 32  # the first signal of the C library's own
+OF_JAVA = "/libjvm.so"
+
+
+@dataclass(frozen=True)
+class Standing:
+    """A thread of a program that stands still: its number and name; what tells the lock that it waits for, and the one that the thread before
+    it waits for, apart from others of their classes; the places of both, if they are in a module, or their classes if the run knows these; the
+    places of its callers where it waits for the one and took the other; a bit for each order of the run's plan of which the latter is known as
+    the first lock; the point of the schedule at which it stood; whether it waits as a reader for another one, behind a writer; whether it is that
+    writer, whom no other thread of the cycle waits for; the number of the thread for whose end it waits, or 0; and whether another one waits for its own."""
+
+    number: int
+    name: str
+    awaited: str
+    held: str
+    awaited_place: Place | None
+    held_place: Place | None
+    waits: list[Place]
+    holds: list[Place]
+    orders: int
+    point: int = 0
+    is_behind: bool = False
+    is_writer: bool = False
+    joins: int = 0
+    is_joined: bool = False
+
+
+class Watch:
+    """Looks for threads that wait for one another, and says so when they did long enough."""
+
+    def __init__(self, table: Table, numbers: type[Modules], sure: float) -> None:
+        self.table, self.numbers, self.sure = table, numbers, sure
+        self.seen: tuple[tuple[int, int], ...] = ()
+        self.looked = self.stood = 0.0  # when it looked last, and for how many seconds the threads of the cycle had stood then
+        self.longest = 0.0  # seconds for which threads stood that went on
+        self.still = False  # whether they stood at the last look
+        self.cycle: list[Thread] = []
+        self.standing: list[Standing] = []
+        self.doubts: list[Doubt] = []  # what could end it, when they had stood long enough
+
+    def look(self) -> bool:
+        """Whether threads of a cycle in which nothing has changed, and which all are asleep, have stood long enough: twice as long, if something is
+        known that could end it."""
+        cycle, now = cycle_in(self.table.threads()), time.monotonic()
+        passed, self.looked, self.still = min(now - self.looked, LONGEST_LOOK), now, False
+        seen = changes_of(cycle)
+        if cycle and seen == self.seen and are_gone(cycle):
+            return False
+        if not cycle or seen != self.seen or not all(map(is_asleep, cycle)):
+            self.longest = max(self.longest, self.stood if self.has_stood() else 0.0)
+            self.seen, self.cycle, self.stood, self.standing = seen, cycle, 0.0, []
+            return False
+        self.stood, self.still = self.stood + passed, True
+        if self.has_stood() and not self.standing:
+            self.standing = described(cycle, self.table, self.numbers)
+        if self.stood < self.sure:
+            return False
+        self.doubts = doubts(cycle, self.table)
+        return (not self.doubts or self.stood >= 2 * self.sure) and self.is_as_seen()
+
+    def is_as_seen(self) -> bool:
+        """Whether the threads of the cycle stand as they did before it was looked for what could end that: who is gone by then may have done so."""
+        cycle = cycle_in(self.table.threads())
+        return changes_of(cycle) == self.seen and all(map(is_asleep, cycle))
+
+    def has_stood(self) -> bool:
+        """Whether threads stood long enough for that to be said of them, if they go on or end."""
+        return self.stood >= LOOKS_STILL
+
+
+def changes_of(cycle: list[Thread]) -> tuple[tuple[int, int], ...]:
+    return tuple(sorted((thread.thread, thread.changes) for thread in cycle))
+
+
+def are_gone(cycle: list[Thread]) -> bool:
+    """Whether the threads of a cycle have ended, with their processes."""
+    return all(state_of(thread.process, thread.thread) in ENDED for thread in cycle)
+
+
+def is_asleep(thread: Thread) -> bool:
+    """Whether the kernel has the thread asleep, or it waits for a spin lock, in which it never is."""
+    state = state_of(thread.process, thread.thread)
+    return state == ASLEEP or (state == RUNNING and thread.call == IN_SPIN)
+
+
+# ---- What could end it.
+
+
+@dataclass(frozen=True)
+class Doubt:
+    """What could end a standstill, in words, and whether programs usually end one so: others only by a thread that releases what another one holds."""
+
+    words: str
+    is_usual: bool
+
+
+def doubts(cycle: list[Thread], table: Table) -> list[Doubt]:
+    return timers_armed(cycle, table) + others(cycle, table) + other_processes(cycle)
+
+
+def other_processes(cycle: list[Thread]) -> list[Doubt]:
+    """Processes of the run that go on beside those of the cycle: one may send a signal that has a handler, which may jump out of a wait or raise an error
+    there, or be awaited by what interrupts one."""
+    processes, is_interruptible = {thread.process for thread in cycle}, any(thread.call == INTERRUPTIBLE for thread in cycle)
+    caught = dict.fromkeys(name for process in sorted(processes) for name in handled_in(process))
+    family = {each for process in processes for first in [first_of_run(process)] for each in [first, *descendants(first), *left_by(first)]} - processes
+    going = len(going_beside(processes, family)) if caught or is_interruptible else 0
+    if not going:
+        return []
+    may = "may be awaited by what interrupts one of these" if is_interruptible else "may send a signal that has a handler: %s" % ", ".join(caught)
+    return [Doubt("%s, and %s" % (counted(going, "other process goes on", "other processes go on"), may), False)]
+
+
+def first_of_run(process: int) -> int:
+    """The process of a run from which another one comes: a child of this command's."""
+    while parent_of(process) not in (0, 1, os.getpid()):
+        process = parent_of(process)
+    return process
+
+
+def left_by(first: int) -> list[int]:
+    """The processes of a run whose own parents have ended, as what a shell has left in the background, with those that they have started."""
+    left = [child for child in children_of(os.getpid()) if child != first and session_of(child) == session_of(first)]
+    return [each for child in left for each in [child, *descendants(child)]]
+
+
+def going_beside(stuck: set[int], others: set[int]) -> set[int]:
+    """The other processes that go on, or can: all but those that wait only for stuck ones and for one another, and do so at the same time: such of which
+    none has gone to sleep between the looks at them."""
+    standing, slept = stuck | others, {process: sleeps_of(process) for process in others}
+    while moved := {process for process in standing - stuck if goes_on(process, standing)}:
+        standing -= moved
+    return others - standing or {process for process in others if sleeps_of(process) != slept[process]}
+
+
+def goes_on(process: int, standing: set[int]) -> bool:
+    """Whether a process has a thread that doesn't wait without an end."""
+    return any(state_of(process, task) not in ENDED and not is_endless(process, task, standing) for task in tasks_of(process))
+
+
+def handled_in(process: int) -> list[str]:
+    """The signals that a process has handlers for, but for those of faults, and those of a virtual machine of Java, which end no wait."""
+    if OF_JAVA in text_of_file("/proc/%d/maps" % process):
+        return []
+    return [name_of_signal(number) for number in range(1, FIRST_OF_SYSTEM) if number not in OF_FAULTS and is_caught(process, number)]
+
+
+def timers_armed(cycle: list[Thread], table: Table) -> list[Doubt]:
+    processes, now = {thread.process for thread in cycle}, time.monotonic()
+    armed = [timer for timer in table.timers() if timer.process in processes and timer.is_armed(now)]
+    said = ["a timer is armed that runs a function" if timer.signal == RUNS_FUNCTION else "a timer is armed, and %s has a handler" % name_of_signal(timer.signal)
+            for timer in armed if timer.signal == RUNS_FUNCTION or is_caught(timer.process, timer.signal)]
+    return [Doubt(words, True) for words in dict.fromkeys(said)]
+
+
+def others(cycle: list[Thread], table: Table) -> list[Doubt]:
+    """Threads of the same processes that aren't in the cycle, and go on, or can: one of them could release a lock of the cycle, unless that refuses to be
+    released by anybody but its holder, or interrupt a wait that may be."""
+    who, is_interruptible = {each.releasing for each in awaited_in(cycle)}, any(thread.call == INTERRUPTIBLE for thread in cycle)
+    going = going_on(cycle, table) if who != {BY_HOLDER} or is_interruptible else 0
+    if not going:
+        return []
+    is_usual = BY_ANYBODY in who or is_interruptible or table.last().is_handed_over
+    may = "and may interrupt one of these" if is_interruptible else "and any thread may release such a lock" if is_usual or BY_OTHERS in who else \
+        "though no thread may release what another one holds"
+    return [Doubt("%s, %s" % (counted(going, "other thread can go on", "other threads can go on"), may), is_usual)]
+
+
+def awaited_in(cycle: list[Thread]) -> list[Held]:
+    """The locks that threads wait for, as the next ones hold them."""
+    return [thread.hold_before(cycle[at - 1]) for at, thread in enumerate(cycle)]
+
+
+def going_on(cycle: list[Thread], table: Table) -> int:
+    """How many threads there are beside those of the cycle that don't wait without an end, all at the same time."""
+    own = {thread.thread for thread in cycle}
+    processes, last = {thread.process for thread in cycle}, table.last()
+    if processes == {last.counting}:
+        return last.going
+    sharing = processes | (sharing_with(processes, table.path) if any(thread.awaited & SHARED_LOCK for thread in cycle) else set())
+    slept = {process: sleeps_of(process) for process in sharing}
+    going = sum(not is_endless(process, task, processes) for process in sharing for task in tasks_of(process) if task not in own and state_of(process, task) not in ENDED)
+    return going or sum(times != slept[process].get(task) for process in sharing for task, times in sleeps_of(process).items())
+
+
+def sharing_with(processes: set[int], but: str) -> set[int]:
+    """The processes of a run that share memory with these, but for the file of this command."""
+    shared = {each for process in processes for each in shared_memory(process, but)}
+    return {process for process in descendants(os.getpid()) if shared_memory(process, but) & shared}
+
+
+def shared_memory(process: int, but: str) -> set[tuple[str, str]]:
+    """The files that a process has as memory which it shares, each by its device and its number there."""
+    lines = [line.split(None, 5) for line in text_of_file("/proc/%d/maps" % process).splitlines()]
+    return {(words[3], words[4]) for words in lines if words[1].endswith("s") and words[-1] != but}
+
+
+def is_caught(process: int, number: int) -> bool:
+    """Whether a signal has a handler in a process, and a thread that doesn't block it."""
+    bit = 1 << number - 1 if number > 0 else 0
+    return bool(mask_in("/proc/%d/status" % process, CAUGHT) & bit) and any(
+        not mask_in("/proc/%d/task/%d/status" % (process, task), BLOCKED) & bit for task in tasks_of(process))
+
+
+def mask_in(path: str, name: bytes) -> int:
+    """The signals in a line of what the system says of a process or thread."""
+    lines = (contents(path) or b"").splitlines()
+    return next((int(line.split()[1], 16) for line in lines if line.startswith(name)), 0)
+
+
+def name_of_signal(number: int) -> str:
+    try:
+        return signal.Signals(number).name
+    except ValueError:
+        return "signal %d" % number
+
+
+def status_words(status: int) -> str:
+    """The status of a program, or the signal that ended it."""
+    return name_of_signal(-status) if status < 0 else "status %d" % status
+
+
+def shell_status(status: int) -> int:
+    """A status as a shell has it, to which a signal that ended the program is 128 and its number."""
+    return 128 - status if status < 0 else status
+
+
+# ---- How they stand.
+
+
+def described(cycle: list[Thread], table: Table, numbers_of: type[Modules]) -> list[Standing]:
+    """The threads of a cycle, each with its places, from the one at the first order on. The one before in the cycle waits for what a thread
+    holds. Behind them come writers without whom readers would go on."""
+    first = min(range(len(cycle)), key=lambda at: cycle[at].order or len(cycle) + 1)
+    cycle = cycle[first:] + cycle[:first]
+    writers = writers_before(cycle, table.threads())
+    numbers = {number: place for place, number in enumerate(sorted(thread.thread for thread in cycle + writers), 1)}
+    modules = {thread.process: numbers_of(thread, table) for thread in cycle + writers}  # (of each process, which may be another program)
+    found = []
+    for at, thread in enumerate(cycle):
+        held, after, own_modules = thread.hold_before(cycle[at - 1]), cycle[(at + 1) % len(cycle)], modules[thread.process]
+        awaited, awaited_place = own_modules.lock(thread.awaited)
+        own, own_place = own_modules.lock(held.lock)
+        found.append(Standing(numbers[thread.thread], own_modules.name(thread), awaited, own, awaited_place, own_place,
+                              placed(own_modules, thread.callers), placed(own_modules, held.callers), held.orders, thread.point,
+                              is_behind(thread, after), joins=numbers[after.thread] if thread.call == IN_JOIN else 0,
+                              is_joined=cycle[at - 1].call == IN_JOIN))
+    for thread in writers:
+        awaited, place = modules[thread.process].lock(thread.awaited)
+        found.append(Standing(numbers[thread.thread], modules[thread.process].name(thread), awaited, "", place, None,
+                              placed(modules[thread.process], thread.callers), [], 0, thread.point, is_writer=True))
+    return found
+
+
+def is_behind(thread: Thread, other: Thread) -> bool:
+    """Whether a reader waits for another one, which it does behind a writer."""
+    return thread.mode == READS_BEHIND and other.hold_before(thread).mode != WRITES
+
+
+def writers_before(cycle: list[Thread], threads: list[Thread]) -> list[Thread]:
+    """Those who wait for a lock for which a reader of the cycle waits behind them: one for each lock, unless one is in the cycle."""
+    behind = {(thread.process, thread.awaited) for at, thread in enumerate(cycle) if is_behind(thread, cycle[(at + 1) % len(cycle)])}
+    behind -= {(thread.process, thread.awaited) for thread in cycle if thread.mode == WRITES}
+    found = {(thread.process, thread.awaited): thread for thread in threads if thread.state == WAITS and thread.mode == WRITES}
+    return [found[each] for each in sorted(behind) if each in found]
+
+
+def placed(numbers_of: Modules, callers: tuple[int, ...]) -> list[Place]:
+    return [place for place in map(numbers_of.place, callers) if place]
+
+
+def shown_places(places: list[Place]) -> tuple[Address, ...]:
+    """Without those of this tool and of the C library."""
+    return tuple(Address(*place) for place in places if not os.path.basename(place[0]).startswith((LIBRARY,) + OF_THE_SYSTEM))
+
+
+def builds_of(thread: Thread, standing: list[Standing]) -> tuple[str, ...]:
+    """The program of a thread that stands still, its C library, and the modules through which such threads came, each with its build."""
+    came, task = {place[0] for each in standing for place in each.waits + each.holds}, "/proc/%d/task/%d/" % (thread.process, thread.thread)
+    files = [line.split(None, 5)[-1] for line in text_of_file(task + "maps").splitlines()]
+    modules = [link_of(task + "exe")] + [file for file in files if os.path.basename(file).startswith(OF_THE_SYSTEM[0]) or file in came]
+    return tuple(build_words(module) for module in dict.fromkeys(modules) if os.path.basename(module) not in ("", LIBRARY))
+
+
+# ---- How a run stood that was ended at its limit.
+
+
+@dataclass(frozen=True)
+class Waiting:
+    """A thread that waited when a run was ended: its number and name, in what it waited, and the places of its callers."""
+
+    number: int
+    name: str
+    what: str
+    waits: list[Place]
+
+
+def waiting(table: Table, numbers_of: type[Modules]) -> list[Waiting]:
+    """The threads that wait without an end, of all processes of a run."""
+    threads = sorted((thread for thread in table.threads() if thread.state == WAITS and is_asleep(thread)), key=lambda thread: thread.thread)
+    found = []
+    for number, thread in enumerate(threads, 1):
+        numbers = numbers_of(thread, table)
+        found.append(Waiting(number, numbers.name(thread), WAITS_IN.get(thread.call, "for a lock"), placed(numbers, thread.callers)))
+    return found

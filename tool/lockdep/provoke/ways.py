@@ -1,0 +1,55 @@
+"""How the runs for one finding differ: by its schedule, or by the places of its orders; which order waits long for the others; and how long."""
+from __future__ import annotations
+
+from dataclasses import dataclass
+from typing import Iterator
+
+LONG_PAUSE = 10000  # milliseconds for which a thread is held back at a point of the schedule, or at an order that is come to once
+PAUSES = (300, 100, 30)  # milliseconds of a pause, which get shorter where pauses make the program fail
+LONGER = 1.5  # how many times as long as the recorded run a thread may be held back
+
+
+@dataclass(frozen=True)
+class Way:
+    """How threads are held back in a run: by the schedule, or else by places; at which order the first pause is long, from 1 on, or 0; and the
+    milliseconds of a long pause, and of others."""
+
+    is_scheduled: bool
+    waits: int
+    long: int
+    pause: int
+
+
+class Ways:
+    """The ways of the runs for one finding, of which each may hang on what the ones before have shown."""
+
+    def __init__(self, orders: int, is_scheduled: bool, pause: str, recorded_seconds: float) -> None:
+        self.orders, self.is_scheduled = orders, is_scheduled
+        self.given = int(pause or 0)
+        self.long = max(LONG_PAUSE, int(LONGER * recorded_seconds * 1000))
+        self.shorter = 0  # how often a pause has made the program fail
+        self.is_refuted = False  # whether threads turned off from the schedule: a long pause shows no more than that
+        self.once: set[int] = set()  # orders that a thread came to once in an earlier run
+
+    def next(self, run: int) -> Way:
+        """The first run follows the schedule, and each one after all orders have waited in turn."""
+        turn = (run - 1) % (self.orders + 1) if self.is_scheduled else run
+        waits = 0 if turn == 0 else (turn - 1) % self.orders + 1
+        return Way(turn == 0 and self.is_scheduled, waits if waits in self.once and not self.shorter and not self.is_refuted else 0, self.longest(), self.usual())
+
+    def usual(self) -> int:
+        return min([self.given or PAUSES[0], PAUSES[min(self.shorter, len(PAUSES) - 1)]]) if self.shorter else self.given or PAUSES[0]
+
+    def longest(self) -> int:
+        return PAUSES[min(self.shorter, len(PAUSES)) - 1] if self.shorter else self.long
+
+    def shorten(self) -> bool:
+        """A pause has made the program fail. Whether a shorter one is left."""
+        self.shorter += 1
+        return self.shorter < len(PAUSES)
+
+
+def pauses(way: Way, orders: int) -> Iterator[str]:
+    """What the plan has behind each order: the first pause at it, if that is another one."""
+    for order in range(1, orders + 1):
+        yield "order %d %d" % (order, way.long) if order == way.waits else "order %d" % order
