@@ -72,7 +72,14 @@ find_program() {
     fi
     # shellcheck source=tool/sources
     . "$home/tool/sources"
-    is_current && return
+    if is_released_still; then
+        program=$released
+        return
+    fi
+    if is_current; then
+        [ ! -f "$seen" ] || rm -f "$seen" 2>/dev/null # what it says of the release is no longer asked
+        return
+    fi
     if is_released; then
         program=$released
         return

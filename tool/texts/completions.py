@@ -1,23 +1,19 @@
 """The completions for bash, zsh and fish, made from the table of options."""
 from __future__ import annotations
 
-from lockdep.cli.options import PROVOKE, RECORD, RUN, Command, Kind, Option
+from lockdep.cli.options import PROVOKE, RECORD, RUN, Command, Kind, Option, is_long
 from other_commands import ALL
 
 RECORDED = (RUN, PROVOKE, RECORD)  # behind whose options a command follows
 
 
-def named(options: list[Option]) -> str:
-    return " ".join([option.name for option in options] + ["--help"])
-
-
-def options_with_values() -> dict[str, tuple[Kind, list[str]]]:
-    """Each option that takes a value, with its kind and its commands, in the table's order."""
-    found: dict[str, tuple[Kind, list[str]]] = {}
+def kinds_of_values() -> dict[str, Kind]:
+    """Each spelling of an option that takes a value, with the kind of that, in the table's order."""
+    found: dict[str, Kind] = {}
     for command in ALL:
         for option in command.options.values():
-            if option.kind:
-                found.setdefault(option.name, (option.kind, []))[1].append(command.name)
+            for spelling in option.shown if option.kind else ():
+                found.setdefault(spelling, option.kind)
     return found
 
 
@@ -25,8 +21,8 @@ def options_with_values() -> dict[str, tuple[Kind, list[str]]]:
 
 def bash(template: str) -> str:
     """The template with the options of each command, those with values, and what completes these."""
-    options = "".join("        %s) echo %s ;;\n" % (command.name, named(list(command.options.values()))) for command in ALL)
-    values = " | ".join(dict.fromkeys(option.name for command in RECORDED for option in command.options.values() if option.kind))
+    options = "".join("        %s) echo %s ;;\n" % (command.name, " ".join(command.shown + ["--help"])) for command in ALL)
+    values = " | ".join(dict.fromkeys(spelling for command in RECORDED for option in command.options.values() if option.kind for spelling in option.shown))
     return template.replace("@OPTIONS@\n", options).replace("@VALUES@", values).replace(
         "@COMMANDS@", " ".join(command.name for command in ALL)).replace("@COMPLETED@\n", bash_values())
 
@@ -34,9 +30,9 @@ def bash(template: str) -> str:
 def bash_values() -> str:
     """The cases of options with values. What `-o` names is a folder, or a file for `view`."""
     by_words: dict[str, list[str]] = {}
-    for name, (kind, commands) in options_with_values().items():
+    for name, kind in kinds_of_values().items():
         words = "-f" if kind.completed == "files" else "-d" if kind.completed == "folders" else kind.completed
-        by_words.setdefault("$kind" if name == "-o" else words, []).append(name)
+        by_words.setdefault("$kind" if name in ("-o", "--output") else words, []).append(name)
     return "".join("        %s) %s ;;\n" % (" | ".join(names), bash_case(words)) for words, names in by_words.items()).replace(" ) ", ") ").replace(
         ")  ;;", ") ;;")
 
@@ -66,10 +62,11 @@ def zsh_arguments(command: Command) -> str:
 
 def zsh_option(option: Option) -> str:
     many = "*" if option.name in ("--accept-left-out", "--finding", "--list") else ""
+    heads = "'%s%s" % (many, option.name) if len(option.shown) == 1 else "'(%s)'{%s}'" % (" ".join(option.shown), ",".join(option.shown))
     if option.kind is None:
-        return "'%s[%s]'" % (option.name, option.brief)
-    return "'%s%s[%s]:%s:%s'" % (many, option.name, option.brief, option.kind.argument.lower() if option.kind.argument != "N" else option.kind.words[2:],
-                                 zsh_value(option.kind))
+        return "%s[%s]'" % (heads, option.brief)
+    return "%s[%s]:%s:%s'" % (heads, option.brief, option.kind.argument.lower() if option.kind.argument != "N" else option.kind.words[2:],
+                              zsh_value(option.kind))
 
 
 def zsh_value(kind: Kind) -> str:
@@ -89,8 +86,8 @@ def fish(template: str) -> str:
 
 
 def fish_option(command: Command, option: Option) -> str:
-    name = "-l " + option.name[2:] if option.name[:2] == "--" else "-s " + option.name[1:]
-    return "complete -c lockdep -n '__lockdep_in %s' %s%s -d '%s'\n" % (command.name, name, fish_value(option.kind), sentence(option.brief))
+    names = " ".join("-l " + name[2:] if is_long(name) else "-s " + name[1:] for name in option.shown)
+    return "complete -c lockdep -n '__lockdep_in %s' %s%s -d '%s'\n" % (command.name, names, fish_value(option.kind), sentence(option.brief))
 
 
 def fish_value(kind: Kind | None) -> str:

@@ -9,7 +9,7 @@ _lockdep_options() {
 _lockdep() {
     local word=$2 before=$3 command=${COMP_WORDS[1]} commands='@COMMANDS@ help'
     local place
-    # What `-o` names: a folder, or a file for `view`.
+    # What `-o` and `--output` name: a folder, or a file for `view`.
     local kind=-d
     [ "$command" != view ] || kind=-f
     COMPREPLY=()

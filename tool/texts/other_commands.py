@@ -1,10 +1,9 @@
 """The commands that the driver doesn't take apart itself, as completions need them: those of the proved program, and those of the other scripts."""
 from __future__ import annotations
 
-from lockdep.cli.options import FILE, GATHER, PROVOKE, RECORD, RUN, Command, Kind, Option
+from lockdep.cli.options import CONFIRM, FILE, GATHER, PROVOKE, RECORD, RUN, Command, Kind, Option
 
-WORKERS_KIND, TEXT = Kind("a number from 1 to 64", "N", 64, "1 2 4 8 16 32 64"), Kind("a text", "TEXT")
-WORKERS = Option("--workers", WORKERS_KIND, "how many workers check the traces, from 1 to 64", "")
+WORKERS = Option("--workers", Kind("a number from 1 to 64", "N", 64, "1 2 4 8 16 32 64"), "how many workers check the traces, from 1 to 64", "")
 MANY = Option("--many", None, "take up to 8192 lock keys", "")
 
 
@@ -27,16 +26,13 @@ ALL = (
         Option("--json", None, "write the rings as JSON", "")]),
     command("chains", "list the acquisitions of a trace", "file", []),
     RECORD,
-    command("confirm", "explain what was found in a recording, with the verdict of each finding", "folder", [
-        Option("--strict", None, "status 1 only for what happened, is possible or not known", ""), Option("--html", FILE, "where the page goes", ""),
-        Option("--sarif", FILE, "write the findings as SARIF", ""), Option("--junit", FILE, "write the findings as JUnit", ""),
-        Option("--json", FILE, "write the findings as JSON", "")]),
+    CONFIRM,
+    command("report", "write one finding as a page to paste where bugs are reported", "folder", []),
     GATHER,
     command("where", "put source lines under the records of a text", "folder", []),
     command("diff", "say which findings are new in a recording", "files", []),
     command("view", "write what was found as a page to look at, as SARIF, or as JUnit", "files", [
-        Option("-o", FILE, "where the page goes", ""), Option("--sarif", FILE, "write the findings as SARIF", ""),
+        Option("-o", FILE, "where the page goes", "", others=("--output",)), Option("--sarif", FILE, "write the findings as SARIF", ""),
         Option("--junit", FILE, "write the findings as JUnit", ""), Option("--json", FILE, "write the findings as JSON", ""),
-        Option("--known", FILE, "findings that are known", ""), Option("--confirmed", FILE, "what confirm wrote for the recording", ""),
-        Option("--left-out", TEXT, "what the recording left out", ""), Option("--waiting", TEXT, "who waited for a lock at the end", "")]),
+        Option("--known", FILE, "findings that are known", "", others=("--suppressions",))]),
 )

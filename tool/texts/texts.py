@@ -6,40 +6,41 @@ import textwrap
 
 from lockdep.cli.options import COMMANDS, RECORDINGS, Command, Option
 
-WIDTH, WIDEST = 120, 26  # of a line of help, and of an option beside its text
+WIDTH, FIRST_WIDTH, WIDEST = 120, 100, 26  # of a line of help, of its first screen, and of an option beside its text
 GLUE = "\xa0"  # a space that isn't the end of a line
 MAN_WIDTH = 80  # of a line in the source of a manual page
 PUNCTUATION, PUNCTUATION_CLASS = ".,;:)]", r".,;:)\]"
-HELP = Option("--help", None, "print help", "Print help")
-FLAGS = {name for command in COMMANDS.values() for name in command.options if name[:2] == "--"}
+HELP = Option("--help", None, "print help", "Print help: what most people need, or with `--help=all` all of it", others=("-h",),
+              first="Print this; with `--help=all` all options, and more of each")
+FLAGS = {name for command in COMMANDS.values() for name in command.shown if name[:2] == "--"}
 
 
 # ---- Help.
 
-def help_of(command: Command, rest: str) -> str:
-    """The help: what the command does, how it is called, its options, and the rest."""
+def help_of(command: Command, rest: str, is_first: bool = False) -> str:
+    """The help: what the command does, how it is called, its options, and the rest; or its first screen, which has some of the options, by a line each."""
     before = "Usage: lockdep %s " % command.name
-    lines = [command.text, ""]
+    lines = (textwrap.wrap(command.text, FIRST_WIDTH) if is_first else [command.text]) + [""]
     for usage in command.usage:
         lines.append(before + usage)
         before = " " * len("Usage: ") + "lockdep %s " % command.name
-    return "\n".join(lines) + "\n\n" + rest.replace("@OPTIONS@\n", "Options:\n" + option_list(command))
+    return "\n".join(lines) + "\n\n" + rest.replace("@OPTIONS@\n", "Options:\n" + option_list(command, is_first))
 
 
-def option_list(command: Command) -> str:
-    heads = [(head_of(option), option.text) for option in command.options.values()] + [("  -h, --help", "Print help")]
+def option_list(command: Command, is_first: bool) -> str:
+    heads = [(head_of(option), option.first if is_first else option.text) for option in all_options(command) if option.first or not is_first]
     column = max(len(head) for head, _ in heads if len(head) <= WIDEST) + 2
-    return "".join(entry(head, text, column) for head, text in heads)
+    return "".join(entry(head, text, column, FIRST_WIDTH if is_first else WIDTH) for head, text in heads)
 
 
 def head_of(option: Option) -> str:
     value = " <%s>" % option.kind.argument if option.kind else ""
-    return ("  " if option.name[1] != "-" else "      ") + option.name + value
+    return ("  " if option.shown[0][1] != "-" else "      ") + ", ".join(option.shown) + value
 
 
-def entry(head: str, text: str, column: int) -> str:
+def entry(head: str, text: str, column: int, width: int) -> str:
     """An option with its text beside it, or below it if there is no room. No line of the text begins as an option does."""
-    lines = [line.replace(GLUE, " ") for line in textwrap.wrap(text.replace(" --", GLUE + "--"), WIDTH - column, break_long_words=False,
+    lines = [line.replace(GLUE, " ") for line in textwrap.wrap(text.replace(" --", GLUE + "--"), width - column, break_long_words=False,
                                                                break_on_hyphens=False)]
     first = head.ljust(column) if len(head) + 2 <= column else head + "\n" + " " * column
     return first + ("\n" + " " * column).join(lines) + "\n"
@@ -56,9 +57,9 @@ def all_options(command: Command) -> list[Option]:
     return list(command.options.values()) + [HELP]
 
 
-def flag(option: Option) -> str:
+def flag(name: str) -> str:
     """An option as mdoc has it: the macro itself writes the first hyphen."""
-    return option.name[1:].replace("-", "\\-") if option.name[:2] != "--" else "-" + option.name[2:]
+    return name[1:].replace("-", "\\-") if name[:2] != "--" else "-" + name[2:]
 
 
 def argument(option: Option) -> str:
@@ -72,7 +73,7 @@ def synopsis(command: Command) -> str:
     """The first way to call a command with all options that belong to it, and the others as they are in the help."""
     alone = {word for usage in command.usage[1:] for word in usage.split() if word.startswith("--")}
     lines = ['.Nm "lockdep %s"' % command.name]
-    lines += [".Op Fl %s%s" % (flag(option), argument(option)) for option in command.options.values()
+    lines += [".Op Fl %s%s" % (flag(option.name), argument(option)) for option in command.options.values()
               if option.name not in alone or option.name == "--frames"]
     lines += [".Ar recording ..."] if command.words == RECORDINGS else [".Op Fl -" if len(command.usage) > 1 else ".Fl -", ".Ar command ..."]
     for usage in command.usage[1:]:
@@ -89,7 +90,7 @@ def use(part: str) -> str:
 
 
 def item(option: Option) -> str:
-    head = ".It Fl h , Fl -help" if option is HELP else ".It Fl %s%s" % (flag(option), argument(option))
+    head = ".It " + " , ".join("Fl " + flag(name) for name in option.shown) + argument(option)
     return head + "\n" + "".join(line + "\n" for line in mdoc(option.text + ".") + (mdoc(option.more) if option.more else []))
 
 

@@ -58,27 +58,30 @@ class Asked:
         return ends_of(answer.output) if answer.status < REFUSED else {}
 
     def read_findings(self) -> list:
-        from ..program.findings import Between, findings_of
+        import gc
+        from ..program.findings import Between, findings_of, numbered
         from ..program.verdicts import Level
         from ..record import summary
-        from .blocked import blocked_threads
+        from .blocked import standing_at_end
         from .judging import AtEnd, judge
         from .verdict import Recorded, by_importance
+        gc.disable()  # (findings live until the end, and with many of them a third of the time went into looking for garbage among them)
         findings = findings_of(self.answer.output)
         for finding in findings:
             finding.between = finding.between or Between(Level.UNKNOWN, reason=self.reason)
         if findings:
             counted = summary.read(self.folder)
-            stood = tuple(blocked.orders for blocked in (blocked_threads(self, counted) if counted else ()))
+            stood = tuple(blocked.orders for blocked in (standing_at_end(self, counted) if counted else ()))
             held = frozenset() if self.reason else frozenset(held.event for several in self.ends().values() for held in several)
             judge(findings, AtEnd(stood, held), self.folder, self.traces, Recorded(self.traces, counted))
         for finding in self.signals.findings if self.signals else ():
-            finding.place = finding.number = len(findings) + 1
+            finding.place = len(findings) + 1
             findings.append(finding)
+        ranked = numbered(by_importance(findings))  # whatever happens later, they keep their numbers
         if os.path.exists(os.path.join(self.folder, PROVOKED)):
             from .happened import take_happened
-            take_happened(findings, self.folder)
-        return by_importance(findings)
+            take_happened(ranked, self.folder)
+        return by_importance(ranked)
 
 
 def ask_about(folder: str) -> Asked:
@@ -99,4 +102,6 @@ def ask_about_threads(folder: str) -> Asked:
             return Asked(folder, answer, objects)
         reason, said = REFUSED_OBJECTS, answer.said
     traces = traces_in(folder)
+    if not traces:  # (of a program that takes no lock, whose handlers ran)
+        return Asked(folder, Answer(b"", 0, b""), [])
     return Asked(folder, ask(BY_CLASSES + traces, with_errors=True), traces, reason, said)

@@ -8,10 +8,12 @@ from dataclasses import dataclass, field
 from ..base.words import name_in, plain_key, stands_for_several
 from ..places.sources import Sources
 from ..program.findings import Event, Held
+from ..program.verdicts import Reason
 from ..record.folder import SIGNALS
 from ..record.notes import WAITING
 from ..record.summary import Summary
 from ..record.threads import called, number_of_thread
+from .timed import marked_in
 
 TYPE_CHECKING = False
 if TYPE_CHECKING:
@@ -75,10 +77,13 @@ class Blocked:
         return frozenset(zip(locks, locks[1:] + locks[:1]))
 
     @property
+    def waits(self) -> list[Event]:
+        """The records at which it waits, and those who hold what is waited for."""
+        return [thread.waits.event for thread in [self.thread] + [thread for thread, _ in self.holders] if thread.waits]
+
+    @property
     def events(self) -> list[Event]:
-        threads = [self.thread] + [thread for thread, _ in self.holders]
-        events = [thread.waits.event for thread in threads if thread.waits]
-        return list(dict.fromkeys(events + [held.event for _, held in self.holders] + [held.event for held in self.thread.held]))
+        return list(dict.fromkeys(self.waits + [held.event for _, held in self.holders] + [held.event for held in self.thread.held]))
 
     @property
     def sentence(self) -> str:
@@ -94,12 +99,16 @@ class Blocked:
 
 
 def is_hung(summary: Summary) -> bool:
-    """Whether a thread waited for a lock when its process ended in another way than by `exit`. A semaphore may be one by which a
-    thread waits for work. The recorder of pthreads alone tells how a process ended."""
-    if "sem" in os.environ.get("LOCKDEP_ALSO", "").split(","):
+    """Whether a thread waited for a lock when its process ended in another way than by `exit`. The recorder of pthreads alone tells how a process ended."""
+    if has_semaphores():
         return False
     at_exit = summary.find("at-exit")
     return at_exit is not None and summary.number(WAITING) > (at_exit.number or 0)
+
+
+def has_semaphores() -> bool:
+    """Whether semaphores are recorded, by which a thread may wait for work."""
+    return "sem" in os.environ.get("LOCKDEP_ALSO", "").split(",")
 
 
 def thread_at_end(name: str, held: list[Held], is_waiting: bool) -> Thread:
@@ -155,8 +164,20 @@ def each_once(blocked: list[Blocked]) -> list[Blocked]:
 
 def blocked_threads(asked: Recorded, summary: Summary) -> list[Blocked]:
     """The threads that were blocked at the end of a recording. One that holds a lock may wait for something else than a lock, and be named nowhere."""
-    if not is_hung(summary):
+    return waiting_at_end(asked, summary) if is_hung(summary) else []
+
+
+def standing_at_end(asked: Recorded, summary: Summary) -> list[Blocked]:
+    """The threads that waited for one another when their process ended, by `exit` or not, but for waits that would have given up at a time."""
+    if has_semaphores() or not summary.number(WAITING):
         return []
+    timed = marked_in(asked.folder, Reason.TIMED)
+    return [blocked for blocked in waiting_at_end(asked, summary) if blocked.orders and not any(
+        event.record in timed.get(os.path.basename(event.file), ()) for event in blocked.waits)]
+
+
+def waiting_at_end(asked: Recorded, summary: Summary) -> list[Blocked]:
+    """The threads that waited for a lock at the end of a recording."""
     traces = {os.path.basename(trace)[:-len(".csv")]: trace for trace in asked.traces}
     waiting, ends = summary.at_end(), asked.ends()
     names = list(waiting) + [name for name in traces if name not in waiting]

@@ -7,7 +7,8 @@ import tempfile
 
 from ..record import losses, summary
 from ..record.folder import HISTORY, Folder, remove_tree
-from .remade import Remade, finish_program
+from ..record.recorders import RECORDERS
+from .remade import Remade, Unpacked, finish_program
 
 CODES = [code for code in losses.NOTES if code.startswith(HISTORY + "-")]
 
@@ -21,7 +22,11 @@ def histories_in(folder: str) -> list[str]:
 
 def write_histories(folder: str, into: str, room: str) -> str | None:
     """Makes those of a recording in a folder. Returns the folder of the traces that were made with them, in the room; nothing if they can't be made, as of a
-    recording by another recorder, or of one without raw.tar.gz."""
+    recorder that keeps no order of steps, or of a recording without raw.tar.gz."""
+    recorder = summary.recorder_of(folder)
+    if recorder in RECORDERS and RECORDERS[recorder].has_log and RECORDERS[recorder].keeps_order:
+        unpacked = Unpacked(folder, room)
+        return unpacked.make_of_log(recorder, into) if unpacked.is_there else None
     remade = Remade(folder, room)
     finish = finish_program() if remade.is_there else None
     return remade.make(finish, remade.frames, into) if finish else None

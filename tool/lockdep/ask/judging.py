@@ -21,11 +21,14 @@ ASKED = (Level.LOCKS, Level.PERHAPS, Level.UNKNOWN)  # levels of which a history
 STRENGTH = (POSSIBLE, NOT_KNOWN, NOT_SHOWN, APART)
 UNTRIED = "not all orders of its steps were tried"
 LEFT_OUT = "a lock of its classes is left out of the order of steps: it was taken while another thread had it, or released by one that hadn't"
-ABSENT = "a lock of its classes isn't in the order of steps, which has no semaphores, nothing of the loader and no locks inside the C library"
-IS_ABSENT = "absent"  # the word in a list of what isn't in a history
+ABSENT = "a lock of its classes isn't in the order of steps%s"
+BROKEN_OFF = "a wait for a lock of its classes was broken off: the order of steps has no wait that didn't end"
+INSIDE = "the order of steps has none of C libraries that the program loads"
+UNSTARTED = "nothing says what comes before a thread that takes a lock of its classes: its start wasn't seen"
+IS_ABSENT, IS_BROKEN_OFF, IS_UNSTARTED = "absent", "broken-off", "unstarted"  # words in a list of what isn't in a history
 INTERRUPTS = "the order of steps doesn't say when an interrupt may come in"
 PENDING = "a thread still waited in one of these orders, or held what it took in it, at the end: the order of steps has no wait that didn't end"
-NO_RING = "no process has threads that could wait for one another in these orders"
+NO_RING = "no order of steps goes over several processes, and no single one has threads that could wait for one another in these orders"
 
 Orders = FrozenSet[Tuple[str, str]]  # of locks by their types: each is held where the other one is waited for
 Slot = Tuple[str, int]  # a thread, or one of those that its trace stands for
@@ -53,11 +56,15 @@ def rings_of(findings: list[Finding], rings: list[Ring]) -> dict[int, Ring]:
     strongest one with the orders of these."""
     found: Dict[int, Ring] = {}
     rings = sorted(rings, key=strength)
+    with_orders: Dict[Orders, List[Finding]] = {}
+    for finding in findings if rings else ():
+        with_orders.setdefault(orders_in(finding), []).append(finding)
     for ring in rings:
-        for finding in made_by(orders_of(ring), findings):
+        for finding in with_orders.get(orders_of(ring)) or made_by(orders_of(ring), findings):
             found.setdefault(finding.place, ring)
-    for finding in findings:
-        of_locks = next((ring for ring in rings if orders_of(ring) == orders_of_locks(finding)), None)
+    strongest = {orders_of(ring): ring for ring in reversed(rings)}
+    for finding in findings if rings else ():
+        of_locks = strongest.get(orders_of_locks(finding))
         if of_locks:
             found.setdefault(finding.place, of_locks)
     return found
@@ -87,7 +94,7 @@ def judge(findings: list[Finding], at_end: AtEnd, folder: str, traces: list[str]
             finding.judged = Judgement(Verdict.HAPPENED)
     cycles = [finding for finding in cycles if not finding.judged]
     scheduled = scheduled_in(folder) if cycles else Scheduled()
-    rings = rings_of(cycles, scheduled.rings)
+    rings, of_cycles = rings_of(cycles, scheduled.rings), {finding.place for finding in cycles}
     for finding in cycles:
         finding.judged = judgement_of(finding, rings.get(finding.place), scheduled, folder, recorded)
     if os.path.exists(os.path.join(folder, WEAK)):
@@ -95,7 +102,7 @@ def judge(findings: list[Finding], at_end: AtEnd, folder: str, traces: list[str]
             judge_marked(findings, folder, traces, room)
     for finding in findings:
         if finding.level in ASKED and not finding.judged:
-            is_whole = finding in cycles and not why_not_whole(finding, scheduled)
+            is_whole = finding.place in of_cycles and not why_not_whole(finding, scheduled)
             without = judgement_without(finding, scheduled, at_end, folder, recorded) if is_whole else None
             finding.judged = without or Judgement(Verdict.NOT_KNOWN, why=why_unknown(finding, scheduled))
 
@@ -103,7 +110,16 @@ def judge(findings: list[Finding], at_end: AtEnd, folder: str, traces: list[str]
 def why_not_whole(finding: Finding, scheduled: Scheduled) -> str:
     """Why the histories don't say all of a finding; empty if they do."""
     reasons = {scheduled.left_out[name] for order in orders_in(finding) for name in order if name in scheduled.left_out}
-    return scheduled.why or (ABSENT if reasons == {IS_ABSENT} else LEFT_OUT if reasons else "")
+    files = {os.path.basename(sighting.event.file) for order in finding.orders for sighting in order.sightings}
+    if scheduled.traces and not files <= scheduled.traces:
+        return INSIDE
+    if scheduled.why or not reasons:
+        return scheduled.why
+    if reasons == {IS_ABSENT}:
+        return ABSENT % (scheduled.absent and ", which has " + scheduled.absent)
+    if IS_UNSTARTED in reasons:
+        return UNSTARTED
+    return BROKEN_OFF if reasons <= {IS_ABSENT, IS_BROKEN_OFF} else LEFT_OUT
 
 
 def why_unknown(finding: Finding, scheduled: Scheduled) -> str:

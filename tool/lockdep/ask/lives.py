@@ -5,6 +5,8 @@ from __future__ import annotations
 import functools
 import os
 
+from ..base.files import contents
+from ..base.words import text_of
 from ..record.folder import LIVES, OBJECTS, is_in_signals
 
 STARTS = "starts"
@@ -20,11 +22,10 @@ class Lives:
         self.numbers: dict[str, str] = {}
         self.named: set[str] = set()  # that started or joined another one, or were
         self.are_known = False  # whether each thread that was started has a number
-        try:
-            with open(os.path.join(folder, LIVES), encoding="utf-8", errors="replace") as file:
-                lines = list(map(str.split, file))
-        except OSError:
+        text = contents(os.path.join(folder, LIVES))
+        if text is None:
             return
+        lines = list(map(str.split, text_of(text).split("\n")[:-1]))
         self.are_known = all(len(words) == 4 for words in lines if words[1:2] == [STARTS])
         for moment, words in enumerate(lines):
             self.take(moment, words)

@@ -1,6 +1,7 @@
 """What the traces of a recording say of a finding besides the checker: by how many threads it was, and what to look at first."""
 from __future__ import annotations
 
+import functools
 import os
 import re
 from typing import Iterable
@@ -19,6 +20,7 @@ VERDICTS, LEVELS = list(Verdict), list(Level)  # the strongest first
 WITH_DEPTH = (Level.PERHAPS, Level.UNKNOWN, Level.CLASSES, Level.TYPES)
 
 
+@functools.lru_cache(maxsize=1 << 14)
 def type_of_key(key: str) -> str:
     """The key with its type in the place of a single lock."""
     name, _, sub_class = key.rpartition("/")
@@ -67,11 +69,11 @@ class Recorded:
         numbers |= {number_of_thread(sighting.event.file) for order in inner.orders for sighting in order.sightings}
         return len(numbers) == 1 and None not in numbers and all(order.traces <= len(order.sightings) for order in inner.orders)
 
-    def who_words(self, inner: Finding) -> str:
+    def who_words(self, finding: Finding, inner: Finding) -> str:
         """What is said of who did what was seen between single locks."""
         return ", " + thread_words(inner, self)
 
-    def steps_words(self, inner: Finding | None) -> str:
+    def steps_words(self, finding: Finding, inner: Finding | None) -> str:
         """Which order of steps may say more of a finding, if the traces are of several recordings."""
         return ""
 

@@ -3,6 +3,8 @@ from __future__ import annotations
 
 import os
 
+from .words import bytes_of, visible
+
 RUN = "LOCKDEP_RUN_HOME"  # is in the environment if `lockdep run` was called
 PLAIN = frozenset("ABCDEFGHIJKLMNOPQRSTUVWXYZabcdefghijklmnopqrstuvwxyz0123456789_./+,:@%-")  # what needs no quotes
 
@@ -19,11 +21,11 @@ kept: list[str] | None = None  # the lines that are kept instead of being writte
 
 
 def write_error(text: str) -> None:
-    """Writes a line to standard error, with names of files as they are."""
+    """Writes a line to standard error, in which nothing is hidden."""
     if kept is not None:
         kept.append(text)
         return
-    raw = os.fsencode(text + "\n")
+    raw = bytes_of(visible(text) + "\n")
     try:
         while raw:
             raw = raw[os.write(2, raw):]

@@ -14,8 +14,16 @@ def bytes_of(text: str) -> bytes:
     return text.encode("utf-8", "surrogateescape")
 
 
+def lines_of(text: str) -> list[str]:
+    """The lines of a text. A line ends with a line feed, perhaps with one carriage return before it. Nothing else ends one, as it does for `str.splitlines`:
+    a name that a recording brings may have it."""
+    lines = text.split("\n")
+    return [line[:-1] if line.endswith("\r") else line for line in (lines if lines[-1] else lines[:-1])]
+
+
 # Characters that are invisible, change how others are displayed, or aren't allowed in XML: first and last of each range.
-HIDDEN = ((0x00, 0x1F), (0x7F, 0x9F), (0x61C, 0x61C), (0x200B, 0x200F), (0x2028, 0x202E), (0x2060, 0x206F), (0xD800, 0xDFFF),
+SURROGATES = (0xD800, 0xDFFF)
+HIDDEN = ((0x00, 0x1F), (0x7F, 0x9F), (0x61C, 0x61C), (0x200B, 0x200F), (0x2028, 0x202E), (0x2060, 0x206F), SURROGATES,
           (0xFEFF, 0xFEFF), (0xFFF9, 0xFFFF))
 ESCAPES = {"\n": "\\n", "\r": "\\r", "\t": "\\t"}
 UNDECODED = (0xDC80, 0xDCFF)  # how a byte that isn't UTF-8 stands in a text
@@ -53,8 +61,13 @@ def counted(number: int, word: str, words: str | None = None) -> str:
     return "{:,} {}".format(number, word if number == 1 else words or word + "s")
 
 
+OF_NAMES = set("/:<>()@#+~.[]_%&*=")  # what words of a sentence don't have
+
+
 def as_sentence(remark: str) -> str:
-    return remark[:1].upper() + remark[1:].rstrip(".") + "."
+    """A remark as a sentence. A lock that it begins with keeps its name."""
+    first = remark.partition(" ")[0].rstrip(":,;")
+    return (remark[:1] if set(first) & OF_NAMES else remark[:1].upper()) + remark[1:].rstrip(".") + "."
 
 
 def quoted(name: str) -> str:

@@ -11,6 +11,7 @@ SHORTER = [("std::__cxx11::", "std::"), ("> >", ">>"),
            ("std::basic_string<char, std::char_traits<char>, std::allocator<char>>", "std::string")]
 ALLOCATOR = ", std::allocator<"
 MOST_OF_NAME = 400  # characters: names of templates can be of any length
+ABI_TAG = re.compile(r"\[abi:\w+\]")
 PARAMETERS_END = re.compile(r"\)( const| volatile| &&?| \[clone [^]]*\])*$")
 MANGLED = re.compile(r"(?<![A-Za-z0-9_])_Z[A-Za-z0-9_]+")
 
@@ -45,8 +46,9 @@ def short_function(function: str) -> str:
 
 
 def without_parameters(function: str) -> str:
-    """The name of a C++ function without its parameters, without what follows them, such as `const` or `[clone .cold]`, and
-    without the return type, which a template's name has."""
+    """The name of a C++ function without its parameters, without what follows them, such as `const` or `[clone .cold]`,
+    without the return type, which a template's name has, and without tags of its ABI, as `[abi:cxx11]`."""
+    function = ABI_TAG.sub("", function)
     found = PARAMETERS_END.search(function)
     depth = 0
     for place in range(found.start() if found else 0, 0, -1):

@@ -15,6 +15,8 @@ SECTION = struct.Struct("<IIQQQQIIQQ")
 SYMBOL = struct.Struct("<IBBHQQ")
 TABLES = (2, 11)  # the sections .symtab and .dynsym
 NAMES = 3  # sections of names, such as those of the sections
+NOTES = 7  # sections of notes
+BUILD_ID = b"\3\0\0\0GNU\0"  # the type and the owner of the note of a build, which lies in a section of its own
 DEBUG_INFORMATION = b"\0.debug_info\0"
 FUNCTIONS = (2, 10)  # functions, and such as are chosen when they are loaded
 MOST_OF_TABLE = 1 << 28  # bytes
@@ -51,6 +53,25 @@ def machine_and_sections(file: BinaryIO) -> tuple[int, list[Section]]:
     file.seek(offset)
     sections = file.read(size * count)
     return machine, [Section(*words) for words in SECTION.iter_unpack(sections[:len(sections) - len(sections) % size])]
+
+
+def build_id_of(module: str) -> str:
+    """What tells a build of a module from others, as the linker has noted it; empty if it hasn't, or the module can't be read."""
+    try:
+        with open(bytes_of(module), "rb") as file:
+            notes = [section.content(file) for section in machine_and_sections(file)[1] if section.kind == NOTES]
+    except (OSError, struct.error, ValueError, MemoryError):
+        return ""
+    for note in notes:
+        size, found, rest = note.partition(BUILD_ID)
+        if found:
+            return rest[:int.from_bytes(size[-4:], "little")].hex()
+    return ""
+
+
+def build_words(module: str) -> str:
+    """A module, and which build it is."""
+    return "%s, %s" % (module, "build " + build_id_of(module) if build_id_of(module) else "whose build isn't known")
 
 
 def has_debug_information(program: str) -> bool:

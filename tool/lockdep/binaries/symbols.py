@@ -18,6 +18,7 @@ from .cplusplus import demangled, short_function
 # below the folder of a kernel's source; otherwise its name.
 PLACE = re.compile(r"(.*?):([0-9]{1,9})(?: (.*))?")
 SHOWN_FROM = "/./"
+SAID_PLACE = re.compile(r".*:(\d+|\?)( \(discriminator \d+\))?")  # as addr2line has it
 WRAPPERS = ("std::", "__gthread", "__gnu_cxx::")
 NO_FILE = "<artificial>"  # of gcc's units with -flto, where addr2line takes the wrong file
 SYSTEM_HEADERS = ("/usr/include/", "/usr/lib/gcc")
@@ -132,8 +133,7 @@ class Symbols:
         is_there = has_addr2line()
         for module, addresses in self.wanted.items():
             if is_there and is_file(module) and self.reader:
-                self.ask_reader_of_code(module, addresses, patience)
-                self.ask_reader_of_data(module, addresses, patience)
+                self.ask_reader(module, addresses, patience)
             self.ask_binutils(module, {address: shown for address, shown in addresses.items() if (module, address) not in self.answers}, patience)
 
     def ask_binutils(self, module: str, addresses: dict[int, str], patience: int) -> None:
@@ -144,38 +144,41 @@ class Symbols:
         self.take(module, addresses, text_of(said or b"").split("\n"))
         self.drop_nearest(module, addresses)
 
-    def ask_reader_of_code(self, module: str, addresses: dict[int, str], patience: int) -> None:
-        """Asks where code is. What the reader doesn't know has no answer."""
+    def ask_reader(self, module: str, addresses: dict[int, str], patience: int) -> None:
+        """Asks where code is, and then where variables are declared, a line for each. What the reader doesn't know has no answer."""
+        data = sorted(self.data.get(module, ()))
         code = {address: shown for address, shown in addresses.items() if address not in self.data.get(module, ())}
-        if not code:
-            return
-        lines = text_of(other_answer([self.reader, "--code", bytes_of(module)], listed(code), patience) or b"").split("\n")
+        said = other_answer([self.reader, "--places", bytes_of(module)], listed(code) + b"\n" + listed(data), patience)
+        lines = text_of(said or b"").split("\n")
+        of_code = max(0, len(lines) - 1 - len(data))
+        self.take_code(module, code, lines[:of_code] + [""])
+        self.take_data(module, addresses, dict(zip(data, lines[of_code:-1])))
+
+    def take_code(self, module: str, code: dict[int, str], lines: list[str]) -> None:
         names = demangled([line for line in lines if line.startswith("_Z")])
         self.take(module, code, [names.get(line, line) for line in lines])
         for address in code:
             if not self.answers[module, address][0].function:
                 del self.answers[module, address]
 
-    def ask_reader_of_data(self, module: str, addresses: dict[int, str], patience: int) -> None:
-        """Asks where variables are declared."""
-        data = sorted(self.data.get(module, ()))
-        if not data:
-            return
-        lines = text_of(other_answer([self.reader, "--lines", bytes_of(module)], listed(data), patience) or b"").split("\n")
-        for address, line in zip(data, lines):
+    def take_data(self, module: str, addresses: dict[int, str], lines: dict[int, str]) -> None:
+        for address, line in lines.items():
             frame = frame_of("", line, addresses[address])
             if frame.path:
                 self.answers[module, address] = [frame]
 
     def take(self, module: str, addresses: dict[int, str], lines: list[str]) -> None:
-        """Reads the output: for each address a line with it, and then two lines for each function."""
-        place, order = 0, list(addresses)
-        for number, address in enumerate(order):
-            after = "0x%016x" % order[number + 1] if number + 1 < len(order) else ""
-            frames, place = [], place + 1
-            while place + 1 < len(lines) and lines[place] != after:
-                frames.append(frame_of(lines[place], lines[place + 1], addresses[address]))
-                place += 2
+        """Reads the output: for each address a line with it, and then two lines for each function. What has others, as by a line break in a path, is
+        unknown."""
+        heads, said, own = {"0x%016x" % address: address for address in addresses}, {address: [] for address in addresses}, []
+        for line in lines[:-1]:
+            if line in heads:
+                own = said[heads[line]]
+            else:
+                own.append(line)
+        for address, own in said.items():
+            is_whole = len(own) % 2 == 0 and all(map(SAID_PLACE.fullmatch, own[1::2]))
+            frames = [frame_of(function, place, addresses[address]) for function, place in zip(own[::2], own[1::2])] if is_whole else []
             self.answers[module, address] = frames or [Frame("", "", 0, addresses[address])]
 
     def drop_nearest(self, module: str, addresses: dict[int, str]) -> None:

@@ -4,26 +4,27 @@ from __future__ import annotations
 import os
 import subprocess
 import sys
+from typing import Sequence
 
 from ..ask.asking import Asked, ask_about
 from ..ask.blocked import sources_wanted
 from ..ask.breaches import Breach, breaches_in
 from ..ask.verdict import Recorded
-from ..base.files import STANDARD_OUTPUT, is_file, need_output, print_file
+from ..base.command_line import Words
+from ..base.files import STANDARD_OUTPUT, is_file, need_output, writing
 from ..base.home import HOME
 from ..base.saying import Refusal
 from ..base.words import visible
 from ..places.sources import sources_of
 from ..program.findings import Finding
 from ..record.complete import LISTED, check_folder
-from ..record.folder import OBJECTS
-from ..record.folder import PAGE, is_made
+from ..record.folder import DEFAULT_FOLDERS, OBJECTS, PAGE, is_made
 from ..record.kernels import is_of_kernel, why_incomplete
 from ..record.summary import read
 from ..record.trace_names import traces_in
 from ..say.text import write_blocks
+from .options import CONFIRM, parse
 
-DEFAULT_FOLDERS = ("lockdep-traces", "traces")
 FORMS = {"--html": "html", "--sarif": "sarif", "--junit": "junit", "--json": "json"}
 RECORD = os.path.join(HOME, "recorders", "pthread", "record")
 
@@ -32,38 +33,27 @@ class Wanted:
     """What the words ask for."""
 
     def __init__(self, words: list[str]) -> None:
-        self.folder, self.is_strict, self.is_help, are_options = "", False, False, True
-        self.forms: dict[str, str] = {}  # the file of each form
-        words = list(words)
-        while words:
-            word = words.pop(0)
-            option, equals, value = word.partition("=")
-            if are_options and option in FORMS:
-                self.take_form(option, value if equals or not words else words.pop(0))
-            elif are_options and word == "--strict":
-                self.is_strict = True
-            elif are_options and word in ("-h", "--help"):
-                self.is_help = True
-            elif are_options and word == "--":
-                are_options = False
-            elif are_options and word.startswith("-"):
-                raise Refusal("unknown option %s; `lockdep confirm --help` lists them" % visible(word))
-            elif self.folder:
-                raise Refusal("one folder, and not two; `lockdep confirm --help` says how to call this")
-            elif not word:
-                raise Refusal("a folder has a name")
-            else:
-                self.folder = word
+        line = parse(CONFIRM, words)
+        if len(line.rest) > 1:
+            raise Refusal("one folder, and not %s; `lockdep confirm --help` says how to call this" % ("two" if len(line.rest) == 2 else len(line.rest)))
+        if "" in line.rest:
+            raise Refusal("a folder has a name")
+        self.folder = "".join(line.rest)
+        self.is_confirmed_only, self.is_verbose, self.color = line.has("--confirmed-only"), line.has("--verbose"), line.last("--color")
+        self.forms = forms_in(line)
 
 
-    def take_form(self, option: str, name: str) -> None:
-        if not name or name == "--":
-            raise Refusal("%s takes a file" % option)
-        if name in self.forms.values():
-            raise Refusal("two options name the same file, %s" % visible(name))
-        if name != STANDARD_OUTPUT and os.path.isdir(name):
-            raise Refusal("%s can't be written: it is a folder" % visible(name))
-        self.forms[FORMS[option]] = name
+def forms_in(line: Words) -> dict[str, str]:
+    """The file of each form that is asked for."""
+    forms: dict[str, str] = {}
+    for option, form in FORMS.items():
+        for name in line.values.get(option, []):
+            if name in forms.values():
+                raise Refusal("two options name the same file, %s" % visible(name))
+            if name != STANDARD_OUTPUT and os.path.isdir(name):
+                raise Refusal("%s can't be written: it is a folder" % visible(name))
+            forms[form] = name
+    return forms
 
 
 def chosen_folder(folder: str) -> str:
@@ -91,6 +81,9 @@ def say_summary(folder: str) -> None:
     if subprocess.run([RECORD, "--summary", folder], stdin=subprocess.DEVNULL).returncode > 1:
         raise Refusal(None)
     if not traces_in(folder):
+        counted = read(folder, HOME)
+        if counted and not counted.number("events"):  # (only handlers ran, which took nothing)
+            return
         raise Refusal("%s has no traces" % visible(folder))
     if not traces_in(os.path.join(folder, OBJECTS)):
         raise Refusal("%s/objects has no traces of single locks: record again" % visible(folder))
@@ -113,22 +106,23 @@ def depths_in(folder: str, asked: Asked, findings: list[Finding]) -> dict[int, i
         return depths_of(folder, asked, findings, room)
 
 
-def write_findings(folder: str, asked: Asked, findings: list[Finding], breaches: list[Breach]) -> None:
+def write_findings(folder: str, asked: Asked, findings: list[Finding], breaches: list[Breach], is_verbose: bool, color: str = "", head: str = "",
+                   below: Sequence[str] = ()) -> None:
     recorded = Recorded(asked.traces, read(folder, HOME))
     recorded.depths = depths_in(folder, asked, findings) if findings and not is_of_kernel(folder) else {}
     sources = sources_of(findings, [folder])
     sources_wanted(breaches, sources)
     sources.ask()
-    write_blocks(findings, breaches, sources, recorded)
+    write_blocks(findings, breaches, sources, recorded, is_verbose, color, head, below)
 
 
-def are_written(folder: str, asked: Asked, forms: dict[str, str]) -> bool:
+def are_written(folder: str, asked: Asked, forms: dict[str, str], is_confirmed_only: bool) -> bool:
     """Writes the forms that `run` writes of a recording. Whether all could be."""
     from ..say.report import Recording, Report, ReportOptions
     summary = read(folder, HOME)
     lost_in = why_incomplete(folder) if is_of_kernel(folder) else summary.left_out()
     lost = ", ".join(lost_in + asked.left_out)
-    made = Report(Recording(folder, summary, lost), ReportOptions(**forms), asked)
+    made = Report(Recording(folder, summary, lost), ReportOptions(confirmed_only=is_confirmed_only, **forms), asked)
     made.sort()
     made.look_deeper()
     made.write_forms(made.options.forms)
@@ -137,14 +131,10 @@ def are_written(folder: str, asked: Asked, forms: dict[str, str]) -> bool:
 
 def main(words: list[str]) -> int:
     wanted = Wanted(words)
-    try:
-        if wanted.is_help:
-            need_output()
-            print_file(os.path.join(HOME, "tool", "help", "confirm"))
-            return 0
-        folder = chosen_folder(wanted.folder)
-        check_folder(folder)
-        check_forms(folder, wanted.forms)
+    folder = chosen_folder(wanted.folder)
+    check_folder(folder)
+    check_forms(folder, wanted.forms)
+    with writing():
         say_summary(folder)
         need_output()
         asked = ask_about(folder)
@@ -153,16 +143,10 @@ def main(words: list[str]) -> int:
             return 2
         findings, breaches = asked.findings(), breaches_in(folder)
         if STANDARD_OUTPUT not in wanted.forms.values():
-            write_findings(folder, asked, findings, breaches)
-        if wanted.forms and not are_written(folder, asked, wanted.forms):
+            write_findings(folder, asked, findings, breaches, wanted.is_verbose, wanted.color)
+        if wanted.forms and not are_written(folder, asked, wanted.forms, wanted.is_confirmed_only):
             return 2
-    except BrokenPipeError:
-        # A reader that has enough, as `head`, needs no message.
-        os.dup2(os.open(os.devnull, os.O_WRONLY), 1)
-        return 2
-    except OSError:
-        raise Refusal("the text can't be written")
     if asked.left_out or (not findings and why_incomplete(folder)):
         return 2
     counted = [finding for finding in findings if not finding.is_note]
-    return 1 if breaches or any(finding.is_counted or not wanted.is_strict for finding in counted) else 0
+    return 1 if breaches or any(finding.is_counted or not wanted.is_confirmed_only for finding in counted) else 0

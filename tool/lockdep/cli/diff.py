@@ -11,21 +11,25 @@ from ..ask.asking import ask_about
 from ..ask.blocked import sources_wanted
 from ..ask.breaches import breaches_in
 from ..ask.verdict import Recorded
-from ..base.files import need_output, print_file, text_named
-from ..base.home import HOME
+from ..base.files import need_output, text_named, writing
 from ..base.saying import Refusal
 from ..base.words import class_of_lock, counted, name_in, type_of_class, visible
 from ..binaries.cplusplus import without_parameters
+from ..gather.facts import Program
+from ..gather.findings import Back, InRecordings, findings_in
+from ..gather.agreement import gathered_in
 from ..known.known import pattern_of
 from ..known.suppressions import pattern_text
 from ..places.sources import Sources, keys_of, sources_of
 from ..places.where_made import Place, place_now, place_of
+from ..program.checker import program_path
 from ..program.findings import Finding, finding_of
-from ..record.complete import OF_GATHER, UNMADE, is_gathered, is_unmade
+from ..record.complete import UNMADE, check_files, is_gathered, is_unmade
 from ..say.terminal import Writer, text_stream
 from ..say.verdict_words import verdict_of
+from .options import no_option
 
-WHAT = "which is neither a recording's folder nor JSON of `lockdep run --json`"
+WHAT = "which is neither the folder of a recording or of `gather` nor JSON of `lockdep run --json`"
 
 
 @dataclass
@@ -73,9 +77,7 @@ def sides_of_folder(folder: str) -> list[Side]:
     sources, recorded, breaches = sources_of(findings, [folder]), Recorded(asked.traces), breaches_in(folder)
     sources_wanted(breaches, sources)
     sources.ask()
-    return [side_of_finding(finding, verdict_of(finding, recorded), finding.verdict.words if finding.verdict else "", places_of(finding, sources))
-            for finding in findings] + [
-        Side(breach.sentence, frozenset([pattern_of(breach, sources)])) for breach in breaches]
+    return sides_of_findings(findings, recorded, sources) + [Side(breach.sentence, frozenset([pattern_of(breach, sources)])) for breach in breaches]
 
 
 def side_of_json(number: int, said: dict) -> Side:
@@ -109,12 +111,28 @@ def sides_of_json(name: str) -> list[Side]:
         raise Refusal("%s, %s, can't be read: %s" % (visible(name), WHAT, visible(repr(error))))
 
 
+def sides_of_gathered(folder: str) -> list[Side]:
+    program = Program(program_path())
+    gathered = gathered_in(folder, program)
+    back = Back(gathered, program)
+    findings = [finding for finding in findings_in(gathered, back) if not finding.is_note]
+    return sides_of_findings(findings, InRecordings(gathered, back), sources_of(findings, shown=(), kept=back.kept.callers()))
+
+
+def sides_of_findings(findings: list[Finding], recorded: Recorded, sources: Sources) -> list[Side]:
+    return [side_of_finding(finding, verdict_of(finding, recorded), finding.verdict.words if finding.verdict else "", places_of(finding, sources))
+            for finding in findings]
+
+
 def sides_of(name: str) -> list[Side]:
     if is_gathered(name):
-        raise Refusal(OF_GATHER % visible(name))
+        return sides_of_gathered(name)
     if is_unmade(name):
         raise Refusal(UNMADE % visible(name))
-    return sides_of_folder(name) if os.path.isdir(name) else sides_of_json(name)
+    if not os.path.isdir(name):
+        return sides_of_json(name)
+    check_files(name)
+    return sides_of_folder(name)
 
 
 def write_list(writer: Writer, word: str, sides: list[Side]) -> None:
@@ -132,24 +150,15 @@ def write_sides(fresh: list[Side], gone: list[Side], same: list[Side]) -> None:
 
 def main(words: list[str]) -> int:
     need_output()
-    if words[:1] in (["-h"], ["--help"]):
-        print_file(os.path.join(HOME, "tool", "help", "diff"))
-        return 0
     for word in words:
         if word.startswith("-") and not os.path.exists(word):
-            raise Refusal("`diff` has no option `%s`; `lockdep diff --help` says how to call this" % visible(word))
+            raise Refusal(no_option("diff", word, []))
     if len(words) != 2:
         raise Refusal("which two recordings? lockdep diff OLD NEW")
     old, new = map(sides_of, words)
     same = [side.beside(old) for side in new if any(side.is_same(other) for other in old)]
     fresh = [side for side in new if not any(side.is_same(other) for other in old)]
     gone = [side for side in old if not any(side.is_same(other) for other in new)]
-    try:
+    with writing():
         write_sides(fresh, gone, same)
-    except BrokenPipeError:
-        # A reader that has enough, as `head`, needs no message.
-        os.dup2(os.open(os.devnull, os.O_WRONLY), 1)
-        return 2
-    except OSError:
-        raise Refusal("the text can't be written")
     return 1 if fresh else 0

@@ -5,7 +5,7 @@ import os
 import resource
 import signal
 
-from ..base.command_line import Help, Words
+from ..base.command_line import Help, Words, help_file
 from ..base.processes import IGNORED_HERE, become
 from ..base.saying import RUN, Refusal, say_refusal
 from ..record import run_settings
@@ -24,8 +24,8 @@ def main(home: str, words: list[str]) -> None:
     undo_start()
     try:
         status = {"run": run, "record": record, "provoke": provoke}[words[0]](home, words[1:])
-    except Help:
-        status = print_help(home, words[0])
+    except Help as asked:
+        status = print_help(help_file(home, words[0], asked.is_all))
     except Refusal as refusal:
         if str(refusal):
             say_refusal(str(refusal))
@@ -80,8 +80,8 @@ def look_at_limits() -> None:
         raise Refusal("not on the PATH, and needed: " + ", ".join(missing))
 
 
-def print_help(home: str, command: str) -> int:
-    with open(os.path.join(home, "tool", "help", command), "rb") as file:
+def print_help(path: str) -> int:
+    with open(path, "rb") as file:
         text = file.read()
     try:
         while text:
@@ -135,19 +135,20 @@ def histories(folder: str) -> int:
     check_folder(folder)
     made = make_histories(folder)
     if made is None:
-        raise Refusal("the histories of %s can't be made: it has no raw.tar.gz, or isn't of the recorder of pthreads" % folder)
+        raise Refusal("the histories of %s can't be made: it has no raw.tar.gz, or its recorder keeps no order of steps" % folder)
     os.write(1, "".join(os.fsencode(path).decode("utf-8", "replace") + "\n" for path in made).encode())
     return 0
 
 
 def start_record(home: str, line: Words) -> int:
     from ..record import recording
+    from ..record.folder import DEFAULT_FOLDER
     from ..record.recorders import RECORDERS
-    recorder, folder = RECORDERS[line.last("--recorder", "pthread")], line.last("-o", "traces")
+    recorder, folder = RECORDERS[line.last("--recorder", "pthread")], line.last("-o", DEFAULT_FOLDER)
     if recorder.script:
-        recording.pass_on_signals(recorder, line.last("--signals"))
+        recording.pass_on(recorder, line.last("--signals"), line.last("--history"))
         become(recorder.starting(home) + ["-o", recording.checked(folder), "--either"] + line.rest, os.environ)
-    options = recording.RecordOptions(folder, recorder, line.has("--recorder"), line.last("--frames"), "1" if line.has("--version-1") else "2",
-                                      not line.has("--no-wait"), line.last("--signals"), line.last("--history"))
+    options = recording.RecordOptions(folder, recorder, line.has("--recorder"), line.last("--frames"), not line.has("--no-wait"),
+                                      line.last("--signals"), line.last("--history"))
     recording.begin(home, options, line.rest, os.path.join(home, "recorders", "pthread", "record"))
     return 0

@@ -38,7 +38,7 @@ def report_options(settings: RunSettings) -> ReportOptions:
     text = settings.value("known-text") or (text_in(known) if known else "")
     return ReportOptions(known, text, settings.value("write-known"), settings.has("quiet"), int(exitcode) if exitcode else None,
                          settings.has("confirmed-only"), settings.has("strict-known"), settings.value("html"), settings.value("sarif"),
-                         settings.value("junit"), settings.value("json"), settings.has("no-library-list"))
+                         settings.value("junit"), settings.value("json"), settings.has("no-library-list"), settings.has("verbose"), settings.value("color"))
 
 
 def command_end(status: int) -> str:
@@ -64,6 +64,15 @@ def lack_of_space(folder: str, room: str) -> tuple[str, str] | None:
     return None
 
 
+def without_list(lines: list[str], head: str) -> list[str]:
+    """The lines without this one and those of its list, which are indented."""
+    if head not in lines:
+        return lines
+    at = lines.index(head)
+    end = next((place for place in range(at + 1, len(lines)) if not lines[place].startswith(PREFIX + "  ")), len(lines))
+    return lines[:at] + lines[end:]
+
+
 class Ending:
     """What is done when the command has ended."""
 
@@ -73,9 +82,10 @@ class Ending:
         self.messages: list[str] = []
         self.is_unmade = False  # whether there is a recording without traces
 
-    def say_messages(self) -> None:
-        """What the recorder said, once, in the words of this tool."""
-        for line in self.messages:
+    def say_messages(self, who_waited: bool = True) -> None:
+        """What the recorder said, once, in the words of this tool; perhaps without who waited at the end, of which a finding says more."""
+        from ..say.seen import HEADS
+        for line in self.messages if who_waited else without_list(self.messages, PREFIX + HEADS["waiting"]):
             line = "lockdep: " + line[len(PREFIX):] if line.startswith(PREFIX) else line
             complain(bytes_of(line.replace("`record --", "`lockdep record --") + "\n"))
         self.messages = []

@@ -6,17 +6,16 @@ import os
 import re
 import signal
 
-from ..base.home import HOME
 from ..base.nearest import nearest
+from ..program.code_words import words_for
 from .refused_line import Facts as LineFacts
 from .refused_record import facts_of
 
-TABLE = os.path.join(HOME, "tool", "words")
 OF_TRACE = re.compile(r"lockdep: (.*): record (\d+): ([TS]\d|H\d+) .*", re.S)
 OF_FILE = re.compile(r"lockdep: (.*): P2 CannotOpen", re.S)
 OF_ELSE = re.compile(r"lockdep: ([A-Z]\d) [A-Z].*", re.S)
 LOOKED_AT = re.compile(r"T[1-5]|S\d")  # the codes that a record says more of
-PATIENCE = 5  # how many seconds a trace may be looked at
+PATIENCE = 5  # for how many seconds of processor time a trace may be looked at
 PIECE = 1 << 18  # bytes that are read at once, and the longest line that is looked at
 MOST_PIECES = 320  # a million records whose names are as long as they may be
 MOST_LINES = 1_000_000  # of a record: what a double quote that is never closed may take in
@@ -27,18 +26,6 @@ OTHER_VERBS = {"acquire": "acq", "lock": "acq", "take": "acq", "release": "rel",
 TYPE_CHECKING = False  # for a tool that checks types, it is true
 if TYPE_CHECKING:
     from typing import Any, BinaryIO
-
-
-def words_for(code: str, facts: dict[str, Any]) -> str:
-    """The table's words for a code and the case that was found, with the parts in brackets filled in."""
-    table = {}
-    with open(TABLE, encoding="latin-1") as file:
-        for line in file:
-            key, tab, text = line.rstrip("\n").partition("\t")
-            if tab and not key.startswith("#"):
-                table[key] = text
-    text = table.get("%s %s" % (code, facts.get("case"))) or table.get(code, "")
-    return re.sub(r"\{([a-z]+)\}", lambda name: str(facts.get(name.group(1), "")), text)
 
 
 def bytes_of(text: str) -> bytes:
@@ -85,16 +72,16 @@ def look_at_trace(file: str, words: list[str], code: str, number: int) -> dict[s
     """What the trace's own lines say, unless that takes too long."""
     def give_up(*_: object) -> None:
         raise TimeoutError
-    before = signal.signal(signal.SIGALRM, give_up)
-    signal.alarm(PATIENCE)
+    before = signal.signal(signal.SIGPROF, give_up)
+    signal.setitimer(signal.ITIMER_PROF, PATIENCE)
     try:
         read = content(file, words, number)
         facts = facts_of(*read, code, number) if read else {}
     except (TimeoutError, MemoryError):
         facts = {}
     finally:
-        signal.alarm(0)
-        signal.signal(signal.SIGALRM, before)
+        signal.setitimer(signal.ITIMER_PROF, 0)
+        signal.signal(signal.SIGPROF, before)
     if "unknown" in facts:
         note_verb(facts)
     return facts

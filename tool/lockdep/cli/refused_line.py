@@ -1,9 +1,9 @@
 """What is wrong with a command line that the program refused: facts by names, which are what the table `words` needs."""
 from __future__ import annotations
 
-import os
 import re
 
+from ..base.command_line import help_file
 from ..base.home import HOME
 from ..base.nearest import nearest
 from ..base.processes import output_of
@@ -35,7 +35,7 @@ class Facts(dict):
         """The options of a command, as its help has them."""
         if command in OF_PROGRAM:
             return OPTION.findall(self.help_of(command))
-        with open(os.path.join(HOME, "tool", "help", command), encoding="latin-1") as file:
+        with open(help_file(HOME, command, True), encoding="latin-1") as file:
             return OPTION.findall(file.read())
 
     def look_at(self, words: list[str]) -> None:

@@ -9,13 +9,14 @@ from ..base.processes import become, output_of
 from ..base.saying import Refusal
 from ..record import recorders, recording, run_settings
 from ..record.building import agent_of_java
+from ..record.folder import DEFAULT_FOLDER
 from ..record.recorders import RECORDERS, Recorder
 from ..record.run_settings import RunSettings
 
 NOT_BUILT = 3  # the status if the checker or the recorder is missing
 STANDARD_OUTPUT = "-"  # of a file that is written: after the command's own output
 FORMS = ("--html", "--sarif", "--junit", "--json", "--write-known")
-FOR_THE_END = ("--known", "--no-library-list", "--quiet", "--error-exitcode", "--confirmed-only", "--strict-known", "--history") + FORMS
+FOR_THE_END = ("--known", "--no-library-list", "--quiet", "--verbose", "--color", "--error-exitcode", "--confirmed-only", "--strict-known", "--history") + FORMS
 
 
 def run(home: str, line: Words) -> int:
@@ -29,7 +30,7 @@ def run(home: str, line: Words) -> int:
     if not line.rest[0]:
         raise Refusal("the command's name is empty")
     recorder = choose(home, line)
-    folder = recording.checked(line.last("-o", "lockdep-traces"))
+    folder = recording.checked(line.last("-o", DEFAULT_FOLDER))
     look_at_name(folder)
     known_text = look_at_files(line, folder)
     settings = settings_for_end(home, line, recorder, known_text)
@@ -39,7 +40,7 @@ def run(home: str, line: Words) -> int:
     then = os.path.join(home, "tool", "recording", "record")
     if recorder.script:
         words = "--either" if line.has("--recorder") else "--command"
-        recording.pass_on_signals(recorder, line.last("--signals"))
+        recording.pass_on(recorder, line.last("--signals"), line.last("--history"))
         become(recorder.starting(home) + ["-o", folder, "--then", then, words] + line.rest, os.environ)
     look_at_recorder(home)
     recording.begin(home, recording.RecordOptions(folder, recorder, line.has("--recorder"), line.last("--frames"),
@@ -54,8 +55,8 @@ def choose(home: str, line: Words) -> Recorder:
     recorder = RECORDERS[line.last("--recorder")] if line.has("--recorder") else recorders.recorder_for(line.rest[0])
     if recorder.name != "pthread" and line.has("--frames"):
         raise Refusal("--frames belongs to the recorder of pthreads, and this is a program for that of " + recorder.language)
-    if recorder.name != "pthread" and line.has("--history"):
-        raise Refusal("--history belongs to the recorder of pthreads, and this is a program for that of " + recorder.language)
+    if not recorder.keeps_order and line.has("--history"):
+        raise Refusal("--history belongs to recorders that keep the order of steps, and this is a program for that of " + recorder.language)
     if not recorder.sees_handlers and line.has("--signals"):
         raise Refusal("--signals belongs to the recorders of pthreads and of Python, and this is a program for that of " + recorder.language)
     if recorder.script and not os.path.exists(os.path.join(home, "recorders", recorder.script)):

@@ -6,8 +6,7 @@ import os
 import sys
 
 from ..ask.histories import make_histories
-from ..base.files import need_output, print_file
-from ..base.home import HOME
+from ..base.files import need_output, writing
 from ..base.saying import Refusal
 from ..base.words import visible
 from ..places.sources import Sources
@@ -17,9 +16,10 @@ from ..record.complete import check_folder
 from ..record.folder import fault
 from ..say.schedule_text import write_histories
 from ..say.terminal import Writer, text_stream
+from .options import no_option
 
 AS_JSON = ["schedule", "--json", "--"]
-NONE = "%s has no history: `lockdep run --history` of a program with locks of pthreads records one"
+NONE = "%s has no history: `lockdep run` of a program in C, C++, Python, Java or Rust records one, unless `--history off` is given"
 
 
 def folder_of(words: list[str]) -> tuple[str, bool]:
@@ -28,7 +28,7 @@ def folder_of(words: list[str]) -> tuple[str, bool]:
     folders = [word for word in words if word not in options]
     unknown = [option for option in options if option != "--json"]
     if unknown:
-        raise Refusal("unknown option %s; `lockdep schedule --help` lists them" % visible(unknown[0]))
+        raise Refusal(no_option("schedule", unknown[0], ["--json"]))
     if len(folders) != 1 or not os.path.isdir(folders[0]):
         raise Refusal("one recording, or files with histories; `lockdep schedule --help` says how to call this")
     return folders[0], bool(options)
@@ -36,25 +36,20 @@ def folder_of(words: list[str]) -> tuple[str, bool]:
 
 def main(words: list[str]) -> int:
     need_output()
-    if set(words) & {"-h", "--help"}:
-        print_file(os.path.join(HOME, "tool", "help", "schedule"))
-        return 0
     folder, is_json = folder_of(words)
     check_folder(folder)
     try:
-        return say_of(folder, is_json)
-    except BrokenPipeError:
-        os.dup2(os.open(os.devnull, os.O_WRONLY), 1)  # a reader that has enough, as `head`, needs no message
-        return REFUSED
+        files = make_histories(folder)
     except OSError as error:
-        raise Refusal(fault(error, folder) if error.filename else "the text can't be written")
-
-
-def say_of(folder: str, is_json: bool) -> int:
-    """Makes the histories and says what the program says of them. The result is the status."""
-    files = make_histories(folder)
+        raise Refusal(fault(error, folder))
     if not files:
         raise Refusal(NONE % visible(folder))
+    with writing():
+        return say_of(folder, files, is_json)
+
+
+def say_of(folder: str, files: list[str], is_json: bool) -> int:
+    """Says what the program says of histories. The result is the status."""
     answer = ask(AS_JSON + files, with_errors=True)
     sys.stderr.buffer.write(answer.said)
     if answer.status >= REFUSED:

@@ -2,15 +2,12 @@
 from __future__ import annotations
 
 import os
-import re
-import signal
 import sys
 
 from ..ask.lives import folder_of
 from ..ask.happened import take_happened
 from ..ask.verdict import Recorded, by_importance
-from ..base.files import STANDARD_OUTPUT, complain, is_file, print_file, same_file, text_named, write_form
-from ..base.home import HOME
+from ..base.files import STANDARD_OUTPUT, complain, is_file, same_file, text_named, write_form
 from ..base.saying import Refusal
 from ..base.words import bytes_of, counted, visible
 from ..known.known import sort
@@ -18,30 +15,20 @@ from ..known.suppressions import WHAT, entries_of
 from ..places.sources import sources_of
 from ..program.checker import REFUSED, answer_of
 from ..program.findings import Finding, findings_of
-from ..program.verdicts import Verdict
 from ..record.folder import SIGNALS
 from ..record.kernels import left_out
 from ..say.forms import text_of_form
 from ..say.found import Found
+from .options import no_option
 
 # The options that take a value, with the name of the value.
-OPTIONS = {"-o": "page", "--sarif": "sarif", "--junit": "junit", "--json": "json", "--known": "known",
-           "--left-out": "left_out", "--waiting": "waiting", "--confirmed": "confirmed"}
+OPTIONS = {"-o": "page", "--output": "page", "--sarif": "sarif", "--junit": "junit", "--json": "json", "--known": "known", "--suppressions": "known"}
+GONE = ("--confirmed", "--left-out", "--waiting")  # what they told of a recording, `confirm` finds in it
+ELSEWHERE = "`view` has no option `%s`: `lockdep confirm FOLDER` says that of a recording, in these forms too, by --html, --sarif, --junit and --json"
 NOT_SHOWN = "lockdep: %s also has traces of signal handlers, which `view` doesn't look at: `lockdep confirm` of that folder does, with --html, --sarif, " \
     "--junit and --json\n"
 FORMS = {"page": "-o", "sarif": "--sarif", "junit": "--junit", "json": "--json"}
 ORDER = ("json", "sarif", "junit", "page")  # in which forms are made
-
-# What `confirm` says about a finding, and a note, to which it may have added what was seen between single locks.
-VERDICT_LINE = re.compile("  ((%s|between types)[:;, ].+)" % "|".join(verdict.words for verdict in Verdict))
-NOTE_LINE = re.compile("  note: (.+)")
-
-
-def refuse_option(word: str) -> None:
-    import difflib
-    near = difflib.get_close_matches(word.partition("=")[0], list(OPTIONS) + ["--help"], 1)
-    hint = "did you mean `%s`? " % near[0] if near else ""
-    raise Refusal("`view` has no option `%s`; %s`lockdep view --help` lists them" % (visible(word), hint))
 
 
 def take_option(word: str, words: list[str], given: dict[str, str]) -> None:
@@ -66,12 +53,12 @@ def command_line(words: list[str]) -> tuple[dict[str, str], list[str]]:
         if word == "--":
             files += words
             break
-        if word in ("-h", "--help"):
-            given["help"] = word
-        elif word in OPTIONS or (equals and option.startswith("--") and option in OPTIONS):
+        if word in OPTIONS or (equals and option.startswith("--") and option in OPTIONS):
             take_option(word, words, given)
+        elif option in GONE:
+            raise Refusal(ELSEWHERE % option)
         elif word.startswith("-") and word != "-":
-            refuse_option(word)
+            raise Refusal(no_option("view", word, list(OPTIONS)))
         else:
             files.append(word)
     return given, files
@@ -95,42 +82,6 @@ def check_outputs(given: dict[str, str], files: list[str]) -> None:
         check_output(option, name, files, named[:place])
 
 
-# ---- What `confirm` wrote.
-
-
-def confirmed_blocks(name: str) -> list[list[str]]:
-    """The findings in a text written by `confirm`, each as its lines."""
-    blocks = [block.strip("\n").split("\n") for block in text_named(name, "the text of `confirm`").split("\n\n")]
-    if not re.fullmatch("findings [0-9]+", blocks[0][0]):
-        raise Refusal("%s is no text of `confirm`, whose first line is `findings N`" % visible(name))
-    return [block for block in blocks[1:] if block[0]]
-
-
-def confirmed_remarks(finding: Finding, block: list[str]) -> list[str]:
-    """The notes of a finding with what `confirm` added to them, if its block has the same ones; and what was seen of it."""
-    said = [match.group(1) for match in map(NOTE_LINE.fullmatch, block) if match]
-    is_same = len(said) == len(finding.notes) and all(map(str.startswith, said, finding.notes))
-    verdicts = [match.group(1) for match in map(VERDICT_LINE.fullmatch, block) if match]
-    return ["what may speak against it: " + note for note in (said if is_same and verdicts else finding.notes)] + verdicts[-1:]
-
-
-def take_confirmed(found: Found, blocks: list[list[str]]) -> None:
-    """Gives each finding what `confirm` says about it, and sorts them as `confirm` does, the most important first. The blocks
-    that belong to no finding, known or not, are those of cycles of single locks."""
-    by_head = {block[0]: (place, block) for place, block in reversed(list(enumerate(blocks)))}
-    nothing = (len(blocks), [""])
-    found.new.sort(key=lambda finding: by_head.get(finding.head, nothing)[0])
-    renumber(found.new)
-    found.confirmed = {finding.number: confirmed_remarks(finding, by_head.get(finding.head, nothing)[1]) for finding in found.new}
-    heads = {finding.head for finding in found.new + found.known}
-    found.of_locks = [block for block in blocks if block[0] not in heads]
-
-
-def renumber(findings: list[Finding]) -> None:
-    for number, finding in enumerate(findings, 1):
-        finding.number = number
-
-
 # ---- All together.
 
 
@@ -142,15 +93,10 @@ def found_in(given: dict[str, str], files: list[str]) -> Found:
     findings = findings_of(answer.output, versions=(1,))
     if bool(findings) != bool(answer.status):
         raise Refusal("`explain --json` ended with status %d and wrote %s" % (answer.status, counted(len(findings), "finding")))
-    blocks = confirmed_blocks(given["confirmed"]) if "confirmed" in given else []
     findings = with_happened(findings, files)
     sources = sources_of(findings)
     result = sort(findings, [], entries, sources)
-    waiting = [line.strip() for line in given.get("waiting", "").split("\n") if line.strip()]
-    found = Found(result.new, result.known, sources, Recorded(files), files, given.get("left_out") or left_out(files), waiting, raw=answer.output)
-    if "confirmed" in given:
-        take_confirmed(found, blocks)
-    return found
+    return Found(result.new, result.known, sources, Recorded(files), files, left_out(files), raw=answer.output)
 
 
 def with_happened(findings: list[Finding], files: list[str]) -> list[Finding]:
@@ -181,19 +127,8 @@ def status_of(found: Found) -> int:
     return 0
 
 
-def stop(number: int, _: object) -> None:
-    """Ends at a signal without leaving anything half-written, or a program that was started."""
-    raise SystemExit(128 + number)
-
-
 def main(words: list[str]) -> int:
-    for number in (signal.SIGHUP, signal.SIGTERM):
-        if signal.getsignal(number) == signal.SIG_DFL:
-            signal.signal(number, stop)
     given, files = command_line(words)
-    if "help" in given:
-        print_file(os.path.join(HOME, "tool", "help", "view"))
-        return 0
     if not files:
         raise Refusal("which traces? lockdep view [-o FILE.html] FILE...")
     check_outputs(given, files)

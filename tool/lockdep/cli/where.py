@@ -8,20 +8,19 @@ import os
 import re
 import sys
 
-from ..base.files import need_output, print_file
-from ..base.home import HOME
+from ..base.files import need_output, writing
 from ..base.saying import Refusal
 from ..base.words import text_of, visible
 from ..binaries.symbols import has_addr2line
 from ..places.places import folders_of
 from ..places.sources import Sources
 from ..program.findings import Event
-from ..record.folder import OBJECTS
+from ..record.folder import DEFAULT_FOLDERS, OBJECTS
 from ..say.explanation import Annotator
 from ..say.lines import INDENT, Item
 from ..say.terminal import Writer, text_stream
+from .options import no_option
 
-DEFAULT_FOLDERS = ("lockdep-traces", "traces")
 RECORD = re.compile(r"record (\d+)")
 KEY = re.compile(r"(.+)/[0-7]$")
 WORDS = re.compile(r"record \d+|[^ ]+")
@@ -116,7 +115,7 @@ def folder_of(words: list[str], sources: Sources) -> str:
     if not words:
         return next((folder for folder in DEFAULT_FOLDERS if sources.read_classes(folder)), DEFAULT_FOLDERS[0])
     if words[0].startswith("-") and not os.path.isdir(words[0]):
-        raise Refusal("there is no option %s, and no folder of that name; `lockdep where --help` says how to call this" % visible(words[0]))
+        raise Refusal("there is no folder %s, and %s" % (visible(words[0]), no_option("where", words[0], [])))
     if not sources.read_classes(words[0]):
         raise Refusal("%s has no recording" % visible(words[0]))
     return words[0]
@@ -124,9 +123,6 @@ def folder_of(words: list[str], sources: Sources) -> str:
 
 def main(words: list[str]) -> int:
     need_output()
-    if words[:1] in (["-h"], ["--help"]):
-        print_file(os.path.join(HOME, "tool", "help", "where"))
-        return 0
     sources = Sources()
     given = folder_of(words, sources)
     lines = text_of(sys.stdin.buffer.read()).split("\n")
@@ -139,8 +135,6 @@ def main(words: list[str]) -> int:
     if not any(sources.read_folders.values()):
         write_text(read, sources)
         raise Refusal("there is no recording: no folder was given, `%s` has none, and the text names no trace of one" % given)
-    try:
+    with writing():
         write_text(read, sources)
-    except OSError:
-        raise Refusal("the text can't be written")
     return 1 if any(FOUND.match(line) for line in lines) else 0

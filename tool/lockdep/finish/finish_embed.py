@@ -5,9 +5,10 @@ import hashlib
 import os
 import re
 
+from ..base.files import opened_text
 from ..base.saying import Refusal, write_error
 from ..record import losses
-from ..record.folder import OBJECTS
+from ..record.folder import DEFAULT_FOLDER, DEFAULT_FOLDERS, OBJECTS
 from ..record.folder import fault, remove, remove_tree
 from ..record.summary import Count, File, Summary, write
 from .finishing import MOST_LOCKS, REST, Tally, write_classes, write_lines
@@ -16,8 +17,8 @@ USAGE = """Finishes a recording that was made by lockdep_record.h, so that `lock
 
 Usage: finish [FOLDER]
 
-  FOLDER  the recording, by default `traces`: task-NNNN.csv, the trace of a task, and task-NNNN.csv.places, its places if
-          ldr_places was called for it
+  FOLDER  the recording, `lockdep-traces` if it isn't given, or else `traces`: task-NNNN.csv, the trace of a task, and
+          task-NNNN.csv.places, its places if ldr_places was called for it
 
 It writes FOLDER/SUMMARY, FOLDER/summary.json, FOLDER/classes and FOLDER/objects, and prints what was seen and what was left
 out. A name CLASS#N is that of a single lock: FOLDER/objects keeps it, and the traces themselves get CLASS. A record at the end
@@ -109,7 +110,7 @@ class Finish:
         self.alike: dict[bytes, int] = {}
 
     def text(self, name: str) -> str:
-        with open(os.path.join(self.path, name), encoding="utf-8", errors="surrogateescape", newline="\n") as file:
+        with opened_text(os.path.join(self.path, name), "\n") as file:
             return file.read()
 
     def line(self, text: str) -> Line:
@@ -255,7 +256,7 @@ def folder_of(words: list[str]) -> str:
             raise Refusal("unknown option %s; `finish --help` says how to call this" % word)
     if len(words) > 1:
         raise Refusal("one folder, and not %d; `finish --help` says how to call this" % len(words))
-    path = words[0] if words else "traces"
+    path = words[0] if words else next(filter(is_unfinished, DEFAULT_FOLDERS), DEFAULT_FOLDER)
     if not os.path.isdir(path):
         raise Refusal("there is no folder %s" % path)
     if os.path.lexists(os.path.join(path, "RECORDED")):
@@ -263,6 +264,11 @@ def folder_of(words: list[str]) -> str:
     if not trace_names(path):
         raise Refusal("%s has no traces: they are called task-0001.csv and so on" % path)
     return path
+
+
+def is_unfinished(path: str) -> bool:
+    """Whether a folder has traces that no `record` made."""
+    return os.path.isdir(path) and bool(trace_names(path)) and not os.path.lexists(os.path.join(path, "RECORDED"))
 
 
 def finish_alone(path: str) -> int:

@@ -48,9 +48,6 @@ class Joins:
     def is_kept(self, key: Hashable) -> bool:
         return key in self.reached and key in self.useful
 
-    def is_left_out(self, key: Hashable) -> bool:
-        return key in self.threads and not self.is_kept(key)
-
     def is_waiting(self, task: Task | None) -> bool:
         """Whether a task waits at the end for what doesn't come: for the end of a thread it may only have to wait for a while, unless that thread
         waits itself."""

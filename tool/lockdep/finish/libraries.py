@@ -4,6 +4,7 @@ from __future__ import annotations
 
 import os
 
+from ..base.files import opened_text
 from ..base.processes import find_command, output_of, run
 from ..base.saying import Refusal
 from ..base.words import quoted
@@ -123,7 +124,7 @@ def make(home: str, made: str) -> bool:
     built = recorder_folder(home)
     if os.environ.get("LOCKDEP_NAMES") != "places":
         output_of([os.path.join(built, "names"), made], is_quiet=True)  # (what can't be found has no type)
-    return run([os.path.join(built, "finish"), made, "2"]) == 0
+    return run([os.path.join(built, "finish"), made]) == 0
 
 
 def traces_in(folder: str) -> list[str]:
@@ -145,7 +146,7 @@ def keys_in(folder: str) -> set[str]:
 
 
 def lines_of(path: str) -> list[str]:
-    with open(path, encoding="utf-8", errors="surrogateescape") as file:
+    with opened_text(path) as file:
         return file.read().splitlines()
 
 

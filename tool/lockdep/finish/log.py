@@ -3,8 +3,9 @@ from __future__ import annotations
 
 import os
 
+from ..base.files import opened, opened_text
 from ..base.saying import Refusal
-from ..record.folder import is_number
+from ..record.folder import HISTORY, is_number
 from .finishing import MOST_RECORDS
 from .handler_sets import Source
 from .joins import STARTED, Joins
@@ -18,6 +19,7 @@ TIMED = (5, 6)  # modes of waits that give up at a time
 RECORDS = frozenset("AR")  # begin lines with an acquisition or a release
 DONE = frozenset("ARWGBME")  # begin lines that say what a task did
 PAGE = "page"  # the further file with counts that aren't text
+MOST_FIRST = 4096  # bytes that are looked at for a first line
 ROW = "<8Q"  # the form of a row of these
 FIRST = "process "  # begins the first line of a process's own file
 OTHER_VERSION = "this was recorded by another version of the recorder: build the program again with this one, and record it"
@@ -32,6 +34,8 @@ class Task:
         self.broken_off: list[list[int]] = []
         self.name, self.life = "", 0  # what its thread is called, and which lock it is; 0 if it isn't joined
         self.first: int | None = None
+        self.member: int | None = None  # which one it is in the history; 0 if that has no steps of it
+        self.trace = ""  # the name of its trace, once it has one
         self.source, self.is_main = 0, False
         self.sources: list[int] = []
         self.last = 0  # the last of its lines that says what it did
@@ -82,6 +86,7 @@ class Process:
 
     def __init__(self) -> None:
         self.number = self.pid = self.began = self.lines = 0
+        self.path = ""  # of its own file
         self.program = self.library = ""  # its file, and where the sources of its language's own library are
         self.is_inner = False  # an interpreter beside the main one of a process, which is counted
         self.told: dict[int, Told] = {}  # its classes
@@ -106,11 +111,12 @@ class Process:
 
     def read(self, path: str, further: list[str]) -> None:
         """Reads its own file, and the further ones."""
+        self.path = path
         if os.path.exists(path + ".lost") or os.path.isfile(path) and not os.path.getsize(path):
             self.counts["unwritten"] = 1
         if os.path.isfile(path):
             self.take_all(lines_of(path))
-        damaged = sum([self.take_all(lines_of("%s-%s" % (path, name)), True) for name in further if name != PAGE])
+        damaged = sum([self.take_all(lines_of("%s-%s" % (path, name)), True) for name in further if name not in (PAGE, HISTORY)])
         self.counts["unwritten"] = self.counts.get("unwritten", 0) + damaged
         if PAGE in further:
             self.read_page("%s-%s" % (path, PAGE))
@@ -123,7 +129,7 @@ class Process:
         """Adds up the counts of all rows, one of which each processor has."""
         import struct
         size = struct.calcsize(ROW)
-        with open(path, "rb") as file:
+        with opened(path) as file:
             rows = file.read()
         for row in struct.iter_unpack(ROW, rows[:len(rows) // size * size]):
             for code, number in zip(self.of_page, row):
@@ -238,6 +244,8 @@ class Process:
             task.waits = kind == "W"
         elif kind == "T":
             task.life = words[1]
+        elif kind == "J":
+            task.member = words[1]
         elif kind == "I":
             task.broken_off.append(words[1:])
         elif kind == "U":
@@ -257,7 +265,7 @@ class Process:
 
 def lines_of(path: str) -> list[str]:
     """The lines of a file, without one that was cut off, as by a full disk."""
-    with open(path, encoding="utf-8", errors="surrogateescape", newline="\n") as file:
+    with opened_text(path, "\n") as file:
         return file.read().split("\n")[:-1]
 
 
@@ -276,15 +284,15 @@ def began(raw: str, name: str, further: list[str]) -> tuple[int, str]:
     path = os.path.join(raw, name)
     if not os.path.isfile(path):
         path = os.path.join(raw, "%s-%s" % (name, further[0]))
-    with open(path, encoding="utf-8", errors="replace") as file:
-        words = file.readline().split()
+    with opened_text(path) as file:
+        words = file.readline(MOST_FIRST).split()
     return (int(words[2]) if len(words) > 2 and words[2].isdigit() else 0), path
 
 
 def is_of_other_version(path: str) -> bool:
     """Whether a process's own file doesn't begin as this version writes it."""
     try:
-        with open(path, encoding="utf-8", errors="replace") as file:
+        with opened_text(path) as file:
             first = file.readline()
     except FileNotFoundError:
         return False

@@ -145,6 +145,7 @@ class Finish:
         if self.is_by_itself:
             self.uncounted += trace.of_threads()
         name = trace_name(self.tally.numbers["threads"])
+        task.trace = name
         self.note_end(trace, name)
         trace.write(self.path, name)
         self.named.append((name, task.process.pid, task.name))
@@ -188,14 +189,17 @@ class Finish:
         return Summary(counts + of_starts + tally.counts(LOSSES) + of_signals)
 
 
-def finish(path: str, raw: str, recorder: str, is_by_itself: bool,
-           counts_of_starts: Callable[[list[Process]], list[Count]] | None = None) -> tuple[Summary, list[Process]]:
-    """Writes the traces of a recording and its classes. The result is what was counted, and what the processes wrote: what they started is counted by who
-    knows of it."""
+def finish(path: str, raw: str, recorder: str, is_by_itself: bool, counts_of_starts: Callable[[list[Process]], list[Count]] | None = None,
+           histories: str = "") -> tuple[Summary, list[Process]]:
+    """Writes the traces of a recording and its classes, and the histories of its processes into a folder, if one is given. The result is what was counted,
+    and what the processes wrote: what they started is counted by who knows of it."""
     making = Finish(path, raw, recorder, is_by_itself)
     of_signals = making.write_all()
     making.count()
     of_starts = counts_of_starts(making.processes) if counts_of_starts else []
+    if histories:
+        from .log_history import write_histories
+        of_signals += write_histories(histories, making.names, making.processes, recorder)
     return making.summary(of_starts, of_signals), making.processes
 
 

@@ -5,6 +5,7 @@ from __future__ import annotations
 
 import os
 
+from ..base.files import opened_text
 from ..base.processes import find_command, output_of
 from ..binaries import loading
 from ..record import go_command, losses
@@ -289,7 +290,7 @@ def is_rust_tool(path: str) -> bool:
 
 def lines_of(path: str) -> list[str]:
     try:
-        with open(path, encoding="utf-8", errors="surrogateescape") as file:
+        with opened_text(path) as file:
             return file.read().split("\n")
     except OSError:
         return []

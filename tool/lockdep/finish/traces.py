@@ -73,7 +73,7 @@ def run_finish(home: str, path: str, settings: Settings) -> bytes:
     frames = [settings.frames] if settings.frames else []
     os.environ[OF_LOOK] = os.path.join(built, "look")
     try:
-        return output_of([os.path.join(built, "finish"), path, settings.version] + frames)[1]
+        return output_of([os.path.join(built, "finish"), path] + frames)[1]
     finally:
         del os.environ[OF_LOOK]
 
@@ -164,7 +164,7 @@ def unpack(folder: Folder) -> None:
     packed = os.path.join(folder.path, "raw.tar.gz")
     if "raw.tar.gz" not in folder.listed() or not os.path.isfile(packed):
         raise Refusal(NOTHING_TO_MAKE % folder.path)
-    if run(["tar", "-C", folder.path, "--no-same-owner", "--force-local", "-xzf", packed]) != 0 or not os.path.isfile(os.path.join(folder.raw, "settings")):
+    if run(["tar", "-C", folder.path, "--no-same-owner", "--force-local", "-xzf", packed]) != 0 or not folder.mark():
         remove_tree(folder.raw)
         raise Refusal("%s can't be unpacked" % packed)
 

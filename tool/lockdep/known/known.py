@@ -9,14 +9,14 @@ from dataclasses import dataclass, field
 
 from ..ask.blocked import Blocked
 from ..ask.breaches import Breach
-from ..base.words import class_of_lock, name_in, type_of_class
+from ..base.words import class_of_lock, name_in, type_of_class, visible
 from ..binaries.cplusplus import without_parameters
 from ..binaries.symbols import Frame
 from ..places.sources import Sources, own_keys_of
-from ..places.where_made import Place, place_now
-from ..program.findings import Finding, by_line, handlers_of, report_lines
+from ..places.where_made import place_now
+from ..program.findings import Finding, by_line, handlers_of, numbered, report_lines
 from .stale import Judge
-from .suppressions import COMMENT, LISTED, OLD_VERDICT, TEXT, Entry, entries_of, is_verdict, listed_words, pattern_text, today
+from .suppressions import BLANKS, COMMENT, LISTED, OLD_VERDICT, TEXT, Entry, comments_of, entries_of, is_verdict, listed_words, pattern_text, today
 from .taking_part import TakingPart
 
 FIRST_LINE = "# Known findings, for the option --known of lockdep run: lines of a report, comments and blank lines."
@@ -131,8 +131,7 @@ def sort(findings: list[Finding], blocked: list[Blocked], entries: list[Entry], 
         fitting = [entry for entry in fresh if fits_blocked(entry, breach, sources)]
         used.update(entry.number for entry in fitting)
         (result.known_breaches if fitting else result.breaches).append(breach)
-    for number, finding in enumerate(result.new, 1):
-        finding.number = number
+    numbered(result.new)
     result.known_lines = len(hidden)
     result.gone = sorted({entry.text for entry in entries if not judge.is_expired(entry) and
                           (entry.number not in used if entry.is_pattern else entry.line not in judge.findings)})
@@ -155,25 +154,20 @@ class Comments:
         return verdict + [comment for name, place in now if place for comment in comments_of(name, place)]
 
 
-def comments_of(name: str, place: Place) -> list[str]:
-    """Where a lock is made, and how the lines of its callers read."""
-    texts = dict.fromkeys("#     at %s: %s" % (caller.source, caller.text) for caller in place.callers if caller.text)
-    return ["#   %s: %s" % (name, place.words)] + list(texts)
-
-
 def is_comment_of_entry(line: str) -> bool:
-    return is_verdict(line.strip()) or any(pattern.match(line.strip()) for pattern in (PLACE_COMMENT, TEXT, OLD_VERDICT))
+    line = line.strip(BLANKS + "\r")
+    return is_verdict(line) or any(pattern.match(line) for pattern in (PLACE_COMMENT, TEXT, OLD_VERDICT))
 
 
 def list_of(findings: list[Finding], old: str, sources: Sources, traces: list[str] = (), breaches: list[Breach] = (),
-            libraries: list[Entry] = ()) -> str:
-    """A list of all findings but those of the list of libraries, with a pattern for each breach. In an existing one comments and patterns
-    stay, and entries that weren't found are removed."""
+            libraries: list[Entry] = (), name: str = "") -> str:
+    """A list of all findings but those of the list of libraries, with a pattern for each breach. In an existing one, of this name, comments and
+    patterns stay, and entries that weren't found are removed."""
     found, kept = report_lines(findings), []
     listed: Counter[str] = Counter()
     of_lines = by_line(findings)
     comments = Comments(findings, TakingPart(sources, list(traces)))
-    entries = {entry.number: entry for entry in entries_of(old, "")}
+    entries = {entry.number: entry for entry in entries_of(old, name)}
     patterns = [entry for entry in entries.values() if entry.is_pattern and not entry.is_expired(today())]
     hidden = {line for finding in findings if any(fits_finding(entry, finding, sources) for entry in patterns + list(libraries))
               for line in finding.lines}
@@ -188,7 +182,7 @@ def list_of(findings: list[Finding], old: str, sources: Sources, traces: list[st
         kept.append(FIRST_LINE)
     for line in found:
         missing = 0 if line in hidden else handlers_of(of_lines[line]) - listed[line]
-        kept += ([line] + comments.of(line)) * missing
+        kept += ([visible(line)] + comments.of(line)) * missing
     kept += dict.fromkeys(pattern_of(breach, sources) for breach in breaches
                           if not any(fits_blocked(entry, breach, sources) for entry in patterns))
     return "".join(line + "\n" for line in kept)

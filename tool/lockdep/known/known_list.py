@@ -15,7 +15,7 @@ def look_at_known(path: str) -> str:
     if os.path.isdir(path):
         raise Refusal("%s, the list of known findings, is a folder" % path)
     if not os.path.exists(path):
-        raise Refusal("%s, the list of known findings, can't be read; --write-known makes one" % path)
+        raise Refusal("%s, the list of known findings, can't be read: it isn't there; --write-known makes one" % path)
     is_kept = not os.path.isfile(path)
     try:
         with open(path, "rb") as file:

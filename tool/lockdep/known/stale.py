@@ -10,7 +10,7 @@ from ..base.words import type_of_class
 from ..places.places import Made
 from ..places.where_made import Place, place_now
 from ..program.findings import Finding, by_line, handlers_of
-from .suppressions import LISTED, Entry, listed_words, today
+from .suppressions import LISTED, Entry, as_listed, listed_words, today, word_of
 from .taking_part import TakingPart
 
 OFFSET_IN_CODE = re.compile(r"\+0x[0-9a-f#]")
@@ -53,14 +53,14 @@ class Judge:
     def places(self, entry: Entry) -> list[tuple[Made, Place]]:
         """The classes that take part now and whose places are known, each with its place."""
         now = [(made, place_now(made, self.sources, shown=True)) for made in self.taking.made(entry.line)]
-        return [(made, place) for made, place in now if place]
+        return [(made, as_listed(made.name, place)) for made, place in now if place]
 
     def other_places(self, entry: Entry) -> list[str]:
         """The classes that take part now and are made where none of the listed ones was, in words. Each listed place is that of one
         class. Of types without listed places nothing is said."""
         left, more = listed_places(entry), []
         for made, now in self.places(entry):
-            type = type_of_class(made.name)
+            type = type_of_class(word_of(made.name))
             same = next((place for place in left.get(type, ()) if self.is_same(entry, place, made, now)), None)
             if same:
                 left[type].remove(same)
@@ -73,8 +73,8 @@ class Judge:
         is_exact = bool(entry.listed)
         if place.is_elsewhere(now, is_exact):
             return False
-        others = [place_now(other, self.sources, shown=True) for other in self.alike(made)]
-        return place.has_lines_of(now) or all(not other or place.is_elsewhere(other, is_exact) for other in others)
+        others = [(other.name, place_now(other, self.sources, shown=True)) for other in self.alike(made)]
+        return place.has_lines_of(now) or all(not other or place.is_elsewhere(as_listed(name, other), is_exact) for name, other in others)
 
     def alike(self, made: Made) -> list[Made]:
         """The other classes that the same functions make, looked up."""
@@ -88,7 +88,7 @@ class Judge:
         """The names with an offset in code that stand for another line of the same function now."""
         said = []
         for made, now in self.places(entry):
-            place = entry.places.get(made.name)
+            place = entry.places.get(word_of(made.name))
             callers = zip(place.callers, now.callers) if place and OFFSET_IN_CODE.search(made.name) else ()
             said += ["%s (%s, and now %s:%s)" % (made.name, one.source, os.path.basename(other.file), other.line)
                      for one, other in callers if one.line and one.line != other.line][:1]

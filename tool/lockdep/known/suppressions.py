@@ -9,11 +9,11 @@ from __future__ import annotations
 import os
 import re
 import time
-from dataclasses import dataclass, field
+from dataclasses import dataclass, field, replace
 from fnmatch import fnmatchcase
 
 from ..base.saying import Refusal
-from ..base.words import visible
+from ..base.words import is_hidden, lines_of, visible
 from ..places.where_made import Place, place_of
 from ..program.verdicts import Judgement, Verdict
 
@@ -22,12 +22,14 @@ LINE = re.compile(r"(circle \S+/[0-7] [ES][RN]|double %s|inversion %s \S+/[0-7])
 FIELD = re.compile(r"(class|module|function|file|signal|verdict):(\S+)")
 PATTERN = re.compile(r"(cycle|circle|double|inversion|blocked|order|hold)((?: +%s)+)" % FIELD.pattern.replace("(", "(?:"))
 UNTIL = re.compile(r"\buntil\b", re.IGNORECASE)
-DATE = re.compile(r"\buntil (\d{4}-\d{2}-\d{2})\s*$", re.IGNORECASE)
-PLACE = re.compile(r"#   ([^ ]+): (made in|any object of|the class object of|\S+) (.+)")
-TEXT = re.compile(r"#     at (.+?:\d+): (.+)")  # how the line of a caller reads, under its place
+DATE = re.compile(r"\buntil ([0-9]{4}-[0-9]{2}-[0-9]{2})\s*$", re.IGNORECASE)
+KINDS = ("made in", "any object of", "the class object of")  # of places, those of several words
+PLACE = re.compile(r"#   ([^ ]+): (%s|\S+) (.+)" % "|".join(KINDS))
+TEXT = re.compile(r"#     at (.+?:[0-9]+): (.+)")  # how the line of a caller reads, under its place
 REASON = re.compile(r"\s+# ?(.*)$")
 BEGINS_WITH_LINE = re.compile(LINE.pattern + r"(?!\S)")  # the names in one may begin with # too
 WHAT = "the list of known findings"
+BLANKS = " \t"  # around an entry
 LIBRARIES = os.path.join(os.path.dirname(os.path.abspath(__file__)), "libraries.known")  # known findings of libraries, which come with the tool
 NO_FINDING = "%s: line %d is no finding: a line is a circle, double or inversion of a report, a pattern, " \
     "a comment (#), or blank"
@@ -107,8 +109,28 @@ class Entry:
 
 
 def escaped(text: str) -> str:
-    """A text as a pattern that fits it alone. Patterns have no spaces, so each of its own may be any letter."""
-    return "".join("[%s]" % letter if letter in "*?[" else "?" if letter.isspace() else letter for letter in text)
+    """A text as a pattern that fits it alone. Patterns have no spaces and nothing that can't be shown, so each of these may be any letter."""
+    return "".join("[%s]" % letter if letter in "*?[" else "?" if letter.isspace() or is_hidden(letter) else letter for letter in text)
+
+
+def word_of(text: str) -> str:
+    """A text of a recording as one word of a list."""
+    return visible(text).replace(" ", "\\x20") or "-"
+
+
+def comments_of(name: str, place: Place) -> list[str]:
+    """Where a lock is made, and how the lines of its callers read, as a list has it: a comment each, whatever the recording calls these."""
+    kind = place.kind if place.kind in KINDS else word_of(place.kind)
+    texts = dict.fromkeys("#     at %s: %s" % (caller.source, caller.text) for caller in place.callers if caller.text)
+    return list(map(visible, ["#   %s: %s" % (word_of(name), replace(place, kind=kind).words), *texts]))
+
+
+def as_listed(name: str, place: Place) -> Place:
+    """A place as it is read in a list in which it was written. So it is found again there, whatever names it has."""
+    entry = Entry(0, "")
+    for line in comments_of(name, place):
+        take_comment(entry, line.strip(BLANKS))
+    return entry.places.get(word_of(name), place)
 
 
 def pattern_text(type: str, classes: list[str], function: str) -> str:
@@ -190,8 +212,8 @@ def take_comment(entry: Entry, line: str) -> None:
 def entries_of(text: str, name: str) -> list[Entry]:
     """The entries of a list. A line that is none is refused."""
     entries: list[Entry] = []
-    for number, line in enumerate(text.splitlines(), 1):
-        line = line.strip()
+    for number, line in enumerate(lines_of(text), 1):
+        line = line.strip(BLANKS)
         if line and not line.startswith("#"):
             entries.append(entry_of(number, line, name))
         elif entries:

@@ -24,9 +24,10 @@ SUFFIXES = tuple(
 
 
 class Sources:
-    """All that is known about the records and the classes that were asked for."""
+    """All that is known about the records and the classes that were asked for. If folders are named, only files of these are shown."""
 
-    def __init__(self) -> None:
+    def __init__(self, shown: Iterable[str] | None = None) -> None:
+        self.shown = None if shown is None else [os.path.join(os.path.realpath(folder), "") for folder in shown]
         self.symbols, self.demangler = Symbols(), Demangler()
         self.callers: dict[Event, list] = {}
         self.records: dict[Event, tuple[int, str]] = {}
@@ -41,17 +42,18 @@ class Sources:
         """Reads the records, and where they come from."""
         wanted: dict[str, set[int]] = {}
         for event in events:
-            if event not in self.callers:
+            if event not in self.records:
                 wanted.setdefault(event.file, set()).add(event.record)
         for name, records in wanted.items():
-            lines, places = record_lines(contents(name) or b"", records), Places(name)
+            lines, places = record_lines(contents(name) or b"", records), Places(name, records)
             for record in records:
                 self.take_record(Event(name, record), lines.get(record), places)
 
     def take_record(self, event: Event, line: tuple[int, str] | None, places: Places) -> None:
         if line:
             self.records[event] = line
-        self.take_callers({event: places.callers(event.record)})
+        if event not in self.callers:
+            self.take_callers({event: places.callers(event.record)})
 
     def take_callers(self, callers: dict[Event, list]) -> None:
         """Takes where records come from, of files that may be gone."""
@@ -66,9 +68,12 @@ class Sources:
             found = classes_in(folder)
             self.read_folders[folder] = found is not None
             for made in [made for made in found or [] if not is_of_library(made.name)]:  # (those are made nowhere)
-                self.classes[made.name] = made
-                self.types.setdefault(type_of_class(made.name), []).append(made)
+                self.take_class(made)
         return self.read_folders[folder]
+
+    def take_class(self, made: Made) -> None:
+        self.classes[made.name] = made
+        self.types.setdefault(type_of_class(made.name), []).append(made)
 
     def want_names(self, names: Iterable[str]) -> None:
         self.want_made([made for name in dict.fromkeys(names) for made in self.made_as(name)])
@@ -119,8 +124,9 @@ class Sources:
                 OFFSET.sub("", other.place_name) == functions]
 
     def text_at(self, frame: Frame, made: Made) -> str:
-        """How a line reads where a class is made, with single spaces; empty if that isn't known, or if the file has changed since."""
-        if not frame.path or (made.record and has_changed(frame.path, made.record.file)):
+        """How a line reads where a class is made, with single spaces; empty if that isn't known, or if the file has changed or the recording is gone since."""
+        record = made.record
+        if not frame.path or (record and (has_changed(frame.path, record.file) or not os.path.exists(bytes_of(record.file)))):
             return ""
         text = next((line for number, line in self.excerpt(frame) if number == frame.line), "")
         return " ".join(text.split())[:MOST_OF_LINE]
@@ -131,13 +137,20 @@ class Sources:
         return "%s %s" % (made.kind, place_words(frames)) if frames else ""
 
     def line_of(self, event: Event) -> Frame | None:
-        """The record's innermost function that has a line."""
-        return next((frame for frame in self.frames(event) if frame.path), None)
+        """The record's innermost function that has a line of the program's own."""
+        return next((frame for frame in self.frames(event) if frame.path and not frame.is_wrapper), None)
+
+    def may_be_shown(self, name: str) -> bool:
+        """Whether a file looks like source, and lies where source is shown from. A link is what it leads to."""
+        if "\0" in name:
+            return False
+        path = os.path.realpath(bytes_of(name))
+        return text_of(path).lower().endswith(SUFFIXES) and (self.shown is None or text_of(path).startswith(tuple(self.shown)))
 
     def excerpt(self, frame: Frame) -> list[tuple[int, str]]:
         """The lines around a source line, with their numbers. Only what looks like source is shown."""
         if frame.path not in self.files:
-            raw = contents(frame.path, MOST_OF_SOURCE) if frame.path.lower().endswith(SUFFIXES) else None
+            raw = contents(frame.path, MOST_OF_SOURCE) if self.may_be_shown(frame.path) else None
             self.files[frame.path] = None if raw is None else text_of(raw).split("\n")
         lines = self.files[frame.path]
         if not lines or frame.line > len(lines):
@@ -167,17 +180,21 @@ def keys_of(finding: Finding) -> list[str]:
     return list(dict.fromkeys(keys))
 
 
-def sources_of(findings: list[Finding], folders: Iterable[str] = ()) -> Sources:
-    """The sources of findings, looked up."""
-    sources = Sources()
-    events = [event for finding in findings for event in finding.events()]
+def sources_of(findings: list[Finding], folders: Iterable[str] = (), shown: Iterable[str] | None = None, kept: dict[Event, list] | None = None,
+               made: Iterable[Made] = ()) -> Sources:
+    """The sources of findings, looked up. Where some records come from, and where some classes are made, may have been kept."""
+    sources = Sources(shown)
+    sources.take_callers(kept or {})
+    for each in made:
+        sources.take_class(each)
+    events = list(dict.fromkeys(event for finding in findings for event in finding.events()))
     sources.want_events(events)
     for finding in findings:
         sources.take_callers(finding.judged.callers_of_ring() if finding.judged else {})
-    for folder in dict.fromkeys([folder for event in events for folder in folders_of(event.file)] + list(folders)):
+    for folder in dict.fromkeys([folder for file in dict.fromkeys(event.file for event in events) for folder in folders_of(file)] + list(folders)):
         sources.read_classes(folder)
     keys = [key for finding in findings for key in keys_of(finding)] + [sources.key_at(event) for event in events]
-    sources.want_names(name_in(key) for key in keys if key)
+    sources.want_names(name_in(key) for key in dict.fromkeys(keys) if key)
     for handler in dict.fromkeys(finding.handler for finding in findings if finding.handler):
         handler.want(sources.symbols)
     sources.ask()

@@ -59,5 +59,16 @@ def text_answer(words: list[str]) -> str:
     return text_of(answer_of(words).output)
 
 
+def program_path() -> str:
+    """The checker's own program, which is started often."""
+    named = program()
+    return text_answer(["--program"]).strip() if os.path.basename(named) == "lockdep" and is_script(named) else named
+
+
+def is_script(path: str) -> bool:
+    with open(path, "rb") as file:
+        return file.read(2) == b"#!"
+
+
 def version() -> str:
     return known_version or text_answer(["--version"]).strip()

@@ -3,16 +3,17 @@ from __future__ import annotations
 
 import json
 from dataclasses import dataclass, field
+from itertools import takewhile
 
 from ..base.saying import Refusal
 from ..base.words import text_of, visible
 from .events import MALFORMED, Event, Held
-from .verdicts import OF_LEVELS, Judgement, Level, Verdict
+from .verdicts import BY_LEVELS, Judgement, Level, Verdict
 
 TYPE_CHECKING = False
 if TYPE_CHECKING:
-    from typing import Callable
-    from ..record.provoked import Happened
+    from typing import Callable, Iterator
+    from ..record.provoked import Attempts, Happened
     from ..record.handlers import Handler
 
 VERSIONS = (1, 2, 3)
@@ -104,6 +105,7 @@ class Finding:
     json: dict = field(default_factory=dict)
     number: int = 0
     happened: Happened | None = None  # in a run of `lockdep provoke`
+    attempts: Attempts | None = None  # all of its runs
     handler: Handler | None = None  # of a signal, if it is what comes in
 
     @property
@@ -131,9 +133,10 @@ class Finding:
     @property
     def judgement(self) -> Judgement | None:
         """What is known of the finding; nothing if single locks weren't asked about."""
-        if self.happened:
+        judged = self.judged or (BY_LEVELS[self.level] if self.level else None)
+        if self.happened and (self.happened.is_final or judged is None):
             return Judgement(Verdict.HAPPENED)
-        return self.judged or (Judgement(OF_LEVELS[self.level]) if self.level else None)
+        return Judgement(Verdict.NOT_KNOWN, why=self.happened.words) if self.happened and not judged.is_counted else judged
 
     @property
     def verdict(self) -> Verdict | None:
@@ -223,14 +226,20 @@ def finding_of(number: int, said: dict) -> Finding:
     keys = [str(key) for key in (said["keys"] if "keys" in said else [said["key"]])]
     finding = Finding(number, str(said["type"]), irq, keys, [str(line) for line in said["lines"]], json=said, number=number)
     finding.notes = [str(note) for note in said.get("notes") or []]
-    finding.orders = [order_of(order) for order in said.get("orders") or []]
-    finding.used, finding.enabled = use_of(said.get("used") or {}, irq), use_of(said.get("enabled") or {}, irq)
+    take_records(finding)
     finding.gates = [gate_of(gate) for gate in said.get("gates") or []]
     finding.only = str(said.get("only") or "")
     finding.between = between_of(number, said["between"]) if "between" in said else None
     if not finding.lines or not keys:
         raise ValueError("a finding without lines or keys")
     return finding
+
+
+def take_records(finding: Finding) -> None:
+    """Takes the orders and marks of a finding from its JSON, with the records that are there by now."""
+    said = finding.json
+    finding.orders = [order_of(order) for order in said.get("orders") or []]
+    finding.used, finding.enabled = (use_of(said[name], finding.irq) if said.get(name) else Use(turns_on=finding.irq) for name in ("used", "enabled"))
 
 
 def listed(versions: tuple[int, ...]) -> str:
@@ -248,13 +257,22 @@ def json_of(raw: bytes, versions: tuple[int, ...] = VERSIONS) -> dict:
     return said
 
 
+def findings_in_turn(raw: bytes) -> Iterator[dict]:
+    """The findings of what `explain --json` wrote, one after the other, since often the first ones are enough. Each is a line."""
+    return (json.loads(text_of(line.rstrip(b","))) for line in takewhile(lambda line: line.startswith(b"{"), raw.split(b"\n")[1:]))
+
+
+def findings_said(said: dict) -> list[Finding]:
+    return [finding_of(number, finding) for number, finding in enumerate(said["findings"], 1)]
+
+
 UNREADABLE = "what `explain --json` wrote can't be read: %s"
 
 
 def findings_of(raw: bytes, versions: tuple[int, ...] = VERSIONS) -> list[Finding]:
     """The findings of what `explain --json` wrote."""
     try:
-        return [finding_of(number, finding) for number, finding in enumerate(json_of(raw, versions)["findings"], 1)]
+        return findings_said(json_of(raw, versions))
     except MALFORMED as error:
         raise Refusal(UNREADABLE % visible(repr(error)))
 
@@ -266,6 +284,13 @@ def ends_of(raw: bytes) -> dict[str, list[Held]]:
                 for end in json_of(raw)["ends"]}
     except MALFORMED as error:
         raise Refusal(UNREADABLE % visible(repr(error)))
+
+
+def numbered(findings: list[Finding]) -> list[Finding]:
+    """The same findings, with the numbers by which they are shown."""
+    for number, finding in enumerate(findings, 1):
+        finding.number = number
+    return findings
 
 
 def report_lines(findings: list[Finding]) -> list[str]:

@@ -48,6 +48,7 @@ class Reason(Enum):
     NO_RING = "no-ring"
     TIMED = "timed"
     LATE = "late"
+    TURNED_OFF = "turned-off"
 
     @property
     def is_counted(self) -> bool:
@@ -86,3 +87,4 @@ OF_LEVELS = {
     Level.TYPES: Verdict.CLASSES,
     Level.NESTED: Verdict.CLASSES,
 }  # as long as no history was asked
+BY_LEVELS = {level: Judgement(verdict) for level, verdict in OF_LEVELS.items()}

@@ -8,14 +8,17 @@ import errno
 import fcntl
 import os
 
+from ..base.files import text_in
 from ..base.saying import Refusal, typed
-from ..base.words import bytes_of
+from ..base.words import bytes_of, lines_of
 from . import run_settings
 
+DEFAULT_FOLDERS = ("lockdep-traces", "traces")  # where a recording is looked for; the second is what an earlier `record` took, and that of kernels takes
+DEFAULT_FOLDER = DEFAULT_FOLDERS[0]
 TASKS = "tasks"  # the file with the names of threads
 OBJECTS = "objects"  # the folder with the traces of single locks
 LIVES = "lives"  # the file that says which thread started and joined which
-WEAK = "weak"  # the file that says which acquisitions wait for a time only, or take a new lock
+WEAK = "weak"  # the file that says which acquisitions wait for a time only
 HISTORY = "history"  # the folder with what the threads of each process did, in the order in which it came, if that was made
 OF_HISTORY = (".csv", ".csv.places", ".left-out")  # ends the names of the files of a process there
 SIGNALS = "signals"  # the folder with the traces of signal handlers: a folder of it for each, named by a number
@@ -116,11 +119,7 @@ class Folder:
         os.set_inheritable(LOCK, True)
 
     def listed(self) -> list[str]:
-        try:
-            with open(self.list, encoding="utf-8", errors="surrogateescape") as file:
-                return file.read().split("\n")[:-1]
-        except OSError:
-            return []
+        return text_in(self.list).split("\n")[:-1]
 
     def write_list(self, names: list[str]) -> None:
         with open(self.list, "r+b", buffering=0) as file:
@@ -279,5 +278,4 @@ def remove_tree(path: str) -> None:
 
 def modules_of(folder: str) -> list[str]:
     """The second column of the classes: the file of each."""
-    with open(os.path.join(folder, "classes"), encoding="utf-8", errors="surrogateescape") as file:
-        return [(line.rstrip("\n").split("\t") + [""])[1] for line in file.read().splitlines()]
+    return [(line.split("\t") + [""])[1] for line in lines_of(text_in(os.path.join(folder, "classes")))]

@@ -21,7 +21,8 @@ PROCESS, THREADS = "process", "threads"  # to what a signal was sent
 class Handler:
     """A handler of a signal: its symbol, if it has one, and where it begins; and of one that took a lock the number of its set of traces, how often it
     ran, how many locks it took, to what the signal was sent, the locks that know their owner, for which it waits only in a narrow moment, the read-write
-    locks, those of them that it only takes as a reader who queues behind waiting writers, and the locks that are neither these nor mutexes."""
+    locks, those of them that it only takes as a reader who queues behind waiting writers, the locks that are neither these nor mutexes, and the other
+    signals whose handlers unblock its signal."""
 
     signal: str
     name: str = ""
@@ -37,9 +38,11 @@ class Handler:
     rwlocks: tuple[str, ...] = ()
     queued: tuple[str, ...] = ()
     others: tuple[str, ...] = ()
+    opened_by: tuple[str, ...] = ()
     is_late: bool = False  # whether each thread that got it had taken its last lock by then
     is_alone: bool = False  # whether each process that has it has one thread, which can't wait for another one
     is_in_one_thread: bool = False  # whether it runs in one thread of a process alone, as all handlers of Python
+    is_by_timers: bool = False  # whether timers alone sent the signal
 
     @property
     def address(self) -> str:
@@ -133,8 +136,8 @@ def handler_of(said: dict) -> Handler:
         raise ValueError("sent to %s" % sent_to)
     return Handler(signal, text_of_member(said, "handler"), text_of_member(said, "module"), offset_of(said), text_of_member(said, "file"),
                    number_of_member(said, "line"), number_of_member(said, "number"), number_of_member(said, "runs"), number_of_member(said, "takes"), sent_to,
-                   names_of(said, "narrow"), names_of(said, "rwlocks"), names_of(said, "queued"), names_of(said, "others"),
-                   said.get("late") is True, said.get("alone") is True, said.get("one_thread") is True)
+                   names_of(said, "narrow"), names_of(said, "rwlocks"), names_of(said, "queued"), names_of(said, "others"), names_of(said, "opened_by"),
+                   said.get("late") is True, said.get("alone") is True, said.get("one_thread") is True, said.get("timers") is True)
 
 
 def handlers_in(folder: str, name: str) -> list[Handler]:
@@ -151,7 +154,7 @@ def handlers_in(folder: str, name: str) -> list[Handler]:
             raise ValueError("the numbers %s" % numbers)
         return handlers
     except (ValueError, TypeError, AttributeError, RecursionError) as error:
-        raise Refusal("%s can't be read: %s" % (visible(path), visible(repr(error))))
+        raise Refusal("%s can't be read: %s" % (visible(path), visible(str(error)) if isinstance(error, ValueError) else "it isn't as it was written"))
 
 
 def words_of_handler(handler: Handler, symbols: Symbols) -> str:

@@ -3,6 +3,7 @@ from __future__ import annotations
 
 import os
 
+from ..base.files import text_in
 from .folder import TASKS
 from .summary import read, recorder_of
 
@@ -16,11 +17,7 @@ def is_of_kernel(folder: str) -> bool:
 
 def traces_of(folder: str) -> list[str]:
     """The traces, which are called by their tasks' names and pids, and are listed. Tasks may share one."""
-    try:
-        with open(os.path.join(folder, TASKS), encoding="utf-8", errors="surrogateescape") as file:
-            names = [line.partition(" ")[0] for line in file.read().split("\n")]
-    except OSError:
-        return []
+    names = [line.partition(" ")[0] for line in text_in(os.path.join(folder, TASKS)).split("\n")]
     return [os.path.join(folder, name) for name in dict.fromkeys(names) if name]
 
 

@@ -24,7 +24,11 @@ class Recorder:
     when = ""  # when it is the default
     is_in_process = False  # whether the program writes its records itself, so that nothing is preloaded
     sees_handlers = True  # whether it records what signal handlers do, as `--signals` says
-    writes_log = False  # whether its programs write the form of recorders/log.md into the folder that they are told
+    unordered = "no semaphores, nothing of the loader and no locks inside the C library"  # what its order of steps has not
+    keeps_order = True  # whether it keeps the order of steps
+    sees_starts = True  # whether it sees each thread start that the program starts
+    has_log = False  # whether its programs write the form of recorders/log.md
+    writes_log = False  # whether they write it into the folder that they are told
     others: str | None = None  # what notes the locks that its programs have besides, by its name in OTHERS of finishes.py
     finisher: str | None = None  # what makes the traces, below recorders/, if neither this package nor `finish` of the recorder of pthreads does
     script: str | None = None  # what records by itself, below recorders/, if that isn't done by the driver
@@ -56,7 +60,8 @@ class Recorder:
 
 
 class Python(Recorder):
-    name, language, script, holder = "python", "Python", "python/lockdep_record/__main__.py", "python"
+    name, language, script, holder, has_log = "python", "Python", "python/lockdep_record/__main__.py", "python", True
+    unordered = "nothing that tasks of asyncio, and greenlets, do"
     sees, when = "for the locks of threading and asyncio", "the command is python3 or a script that names it"
 
     def recognises(self, command: str) -> bool:
@@ -74,10 +79,10 @@ class Python(Recorder):
 
 
 class Rust(Recorder):
-    name, language, is_in_process, writes_log, holder = "rust", "Rust", True, True, None
+    name, language, is_in_process, has_log, writes_log, holder = "rust", "Rust", True, True, True, None
     others, sees = "rust-locks", "for those of the crate lockdep_record"
     when = "it is a program built with that crate and --cfg lockdep, or cargo with that flag in RUSTFLAGS or its settings"
-    sees_handlers = False
+    sees_handlers, sees_starts, unordered = False, False, ""
 
     def recognises(self, command: str) -> bool:
         """Whether the command is a program that contains the recorder, or cargo with flags to build one."""
@@ -90,9 +95,10 @@ class Rust(Recorder):
 
 
 class Go(Recorder):
-    name, language, is_in_process, writes_log, others, holder = "go", "Go", True, True, "started", None
+    name, language, is_in_process, has_log, writes_log, others, holder = "go", "Go", True, True, True, "started", None
+    keeps_order = False
     sees, when = "for sync.Mutex and sync.RWMutex", "it is the command go, or a program that this has built to be recorded"
-    sees_handlers = False
+    sees_handlers, unordered = False, ""
 
     def recognises(self, command: str) -> bool:
         """Whether the command is go, or a program that contains the recorder."""
@@ -111,9 +117,9 @@ class Go(Recorder):
 
 
 class Java(Recorder):
-    name, language, script, holder = "java", "Java", "java/record", "java"
+    name, language, script, holder, has_log = "java", "Java", "java/record", "java", True
     sees, when = "for monitors and locks of Java", "it is java"
-    sees_handlers = False
+    sees_handlers, unordered = False, ""
 
     def recognises(self, command: str) -> bool:
         return command.rpartition("/")[2] == "java"
@@ -125,7 +131,7 @@ class Java(Recorder):
 
 
 class Embed(Recorder):
-    name, language, is_in_process, others, holder = "embed", "lockdep_record.h", True, "pthreads", None
+    name, language, is_in_process, others, holder, keeps_order = "embed", "lockdep_record.h", True, "pthreads", None, False
     sees = "for a program with lockdep_record.h that writes to the folder LOCKDEP_TRACES"
     when = "it is a program with that header and that name"
     sees_handlers = False

@@ -20,6 +20,7 @@ OF_HISTORY, OFF = "LOCKDEP_HISTORY", "off"  # how many megabytes are kept of the
 HISTORY_MEGABYTES = 64  # of a process, unless another size is given
 MOST_MEGABYTES = 1024
 HISTORY_SIZES = "a number of megabytes from 1 to %d, or %s" % (MOST_MEGABYTES, OFF)
+VERSION = "2"  # of the format of traces
 MUSL = b"/ld-musl"  # in the head of a program whose loader would end it because of what is preloaded
 HEAD = 4096
 NOTHING_TO_MAKE = "%s has no recording whose traces can be made"
@@ -29,22 +30,21 @@ ASAN = "verify_asan_link_order"  # without it, a program with gcc's address sani
 class RecordOptions:
     """What the command line asks for."""
 
-    def __init__(self, folder: str, recorder: Recorder, is_named: bool, frames: str = "", version: str = "2", is_waiting: bool = True,
+    def __init__(self, folder: str, recorder: Recorder, is_named: bool, frames: str = "", is_waiting: bool = True,
                  signals: str = "", history: str = "") -> None:
         self.folder, self.recorder, self.is_named = checked(folder), recorder, is_named
-        self.frames, self.version, self.is_waiting, self.signals, self.history = frames, version, is_waiting, signals, history
+        self.frames, self.is_waiting, self.signals, self.history = frames, is_waiting, signals, history
 
 
 class Settings:
     """What has to be known of a recording when its traces are made, perhaps again."""
 
-    def __init__(self, version: str = "2", frames: str = "", program: str = "", recorder: str = "pthread", named: str = "",
-                 also: str = "sem") -> None:
-        self.version, self.frames, self.program, self.recorder, self.named, self.also = version, frames, program, recorder, named, also
+    def __init__(self, frames: str = "", program: str = "", recorder: str = "pthread", named: str = "", also: str = "sem") -> None:
+        self.frames, self.program, self.recorder, self.named, self.also = frames, program, recorder, named, also
 
     def text(self) -> str:
         return "version %s\nframes %s\nprogram %s\nrecorder %s\nnamed %s\nalso %s\n" % (
-            self.version, self.frames, self.program, self.recorder, self.named, self.also)
+            VERSION, self.frames, self.program, self.recorder, self.named, self.also)
 
 
 def read_settings(raw: str, frames: str) -> Settings:
@@ -54,7 +54,7 @@ def read_settings(raw: str, frames: str) -> Settings:
     with open(os.path.join(raw, "settings"), encoding="utf-8", errors="surrogateescape") as file:
         for line in file.read().split("\n"):
             name, _, value = line.partition(" ")
-            if name in ("version", "frames", "program", "recorder", "named", "also"):
+            if name in ("frames", "program", "recorder", "named", "also"):
                 setattr(settings, name, value)
     settings.frames = frames or settings.frames
     return settings
@@ -67,9 +67,7 @@ def begin(home: str, options: RecordOptions, command: list[str], then: str) -> N
     recorder, asked_of_run = options.recorder, run_settings.take_over()
     if recorder.name == "pthread":
         check_variables()
-    pass_on_signals(recorder, options.signals)
-    if options.history:
-        os.environ[OF_HISTORY] = options.history
+    pass_on(recorder, options.signals, options.history)
     out = recorder_folder(home)
     program, status = find_command(command[0])
     if program is None:
@@ -81,7 +79,7 @@ def begin(home: str, options: RecordOptions, command: list[str], then: str) -> N
     folder = Folder(options.folder)
     folder.prepare()
     folder.put_run_settings(asked_of_run)
-    folder.put("settings", Settings(options.version, options.frames, program, recorder.name, "yes" if options.is_named else "",
+    folder.put("settings", Settings(options.frames, program, recorder.name, "yes" if options.is_named else "",
                                     os.environ.get("LOCKDEP_ALSO", "")).text())
     keep_wrappers(folder.raw)
     preload = "" if recorder.is_in_process or is_of_musl(program) else preloaded(preloadable(home, out, folder))
@@ -105,19 +103,26 @@ def preloaded(out: str) -> str:
     return ":".join(os.path.join(out, name) for name in names)
 
 
-def pass_on_signals(recorder: Recorder, signals: str) -> None:
-    """Tells a recorder what is wanted of signal handlers. If nothing was asked for, the command's environment stays as it is."""
+def pass_on(recorder: Recorder, signals: str, history: str) -> None:
+    """Tells a recorder what is wanted of signal handlers and of the order of steps. If nothing was asked for, the command's environment stays as it is."""
     if recorder.sees_handlers and signals:
         os.environ[OF_SIGNALS] = signals
+    if recorder.keeps_order:
+        if history:
+            os.environ[OF_HISTORY] = history
+        check_history()
 
 
 def check_variables() -> None:
-    """Refuses what LOCKDEP_ALSO, LOCKDEP_SIGNALS and LOCKDEP_HISTORY ask for and no recorder knows."""
+    """Refuses what LOCKDEP_ALSO and LOCKDEP_SIGNALS ask for and no recorder knows."""
     for word in os.environ.get("LOCKDEP_ALSO", "").split(","):
         if word and word not in ALSO:
             raise Refusal("LOCKDEP_ALSO takes sem, flockfile and flock, separated by commas, and not '%s'" % word)
     if os.environ.get(OF_SIGNALS, "") not in SIGNALS + ("",):
         raise Refusal("%s takes off, locks or all, and not '%s'" % (OF_SIGNALS, os.environ[OF_SIGNALS]))
+
+
+def check_history() -> None:
     if os.environ.get(OF_HISTORY) and not is_history_size(os.environ[OF_HISTORY]):
         raise Refusal("%s takes %s, and not '%s'" % (OF_HISTORY, HISTORY_SIZES, os.environ[OF_HISTORY]))
 

@@ -32,7 +32,7 @@ LIBRARY = re.compile(r".*/library/(std|core|alloc)/src/(.*)|.*/(?:rustc/[0-9a-f]
 LOCKS = ("sync/poison", "sync/nonpoison", "sync/once", "sync/lazy_lock", "sys/sync/")  # of std
 MOST_LEVELS = 8  # of functions of the library between a lock's wait and the program
 MOST_CALLS = 10000  # whose places are asked for
-PATIENCE = 10  # seconds for one level's places
+PATIENCE = 10  # seconds of processor time for one level's places
 
 
 class Kind(Enum):

@@ -3,15 +3,29 @@ their text. Recordings by an earlier version, and by recorders that don't know t
 from __future__ import annotations
 
 import os
+import re
 
+from ..base.files import contents, text_in
 from ..base.quick_json import parsed
+from ..base.saying import Refusal
+from ..base.words import text_of, visible
 from . import losses, notes as lines
 
 VERSION = 1  # of summary.json
+OTHER_VERSION = "its summary.json is of version %s of recordings, and this tool knows version %d"
+DAMAGE = (ValueError, KeyError, TypeError, IndexError, AttributeError)  # what a summary.json raises that isn't as it was written
+NUMBER = re.compile(r"[-+]?[0-9][0-9.,]*(?:[eE][-+]?[0-9]+)?")
 UNCOUNTED = ("loaded ", "incomplete ")  # begin lines with the path of a file, or with a reason, which may end with a number
 NOTED = (lines.WAITING, lines.HELD_AT_END) + losses.BREACHES  # whose lines are notes from the first one on
 STARTED, LOADED = "started", "loaded"  # the programs that were started, and all files that were loaded, until others are put in their place
+MOST_DIGITS = 20  # of a count
+MOST_LINES = 100_000  # of a SUMMARY: it has some hundred, and one for each file that it names
+MOST_VALUES = 400_000  # of a summary.json, by its commas and brackets
 WITH_TEXT = ("linux",)  # recorders whose summary.json doesn't have all: they write SUMMARY themselves, also where there is no Python
+
+
+class TooLong(ValueError):
+    """A summary that is longer than any recorder writes one."""
 
 
 class File:
@@ -121,17 +135,33 @@ class Summary:
 
 # ---- As text.
 
+def check_length(text: str, signs: str, most: int, what: str) -> None:
+    """Refuses a summary that has more than any recorder writes, before it is taken apart."""
+    if sum(map(text.count, signs)) > most:
+        raise TooLong("it has more than {:,} {}".format(most, what))
+
+
 def parse(text: str) -> list[Count]:
     """The counts of a SUMMARY, by this version or an earlier one."""
+    check_length(text, "\n", MOST_LINES, "lines")
     counts: list[Count] = []
+    if "\0" in text:
+        raise ValueError("it has a zero byte")
     for line in text.split("\n"):
         name, _, number = line.rpartition(" ")
         if line.startswith("  ") and counts:
             add_line(counts[-1], line[2:])
         elif line and not line.startswith(" "):
-            is_number = bool(name) and number.isdigit() and not line.startswith(UNCOUNTED)
-            counts.append(Count(name, int(number)) if is_number else Count(line, None))
+            is_number = bool(name) and not line.startswith(UNCOUNTED) and NUMBER.fullmatch(number)
+            counts.append(Count(name, number_in(number)) if is_number else Count(line, None))
     return counts
+
+
+def number_in(text: str) -> int:
+    """A count. Anything else that is a number is damage."""
+    if not text.isdigit() or len(text) > MOST_DIGITS:
+        raise ValueError("%s is no count" % text[:MOST_DIGITS])
+    return int(text)
 
 
 def add_line(count: Count, line: str) -> None:
@@ -204,11 +234,18 @@ def unicode_escape(code: int) -> str:
 
 
 def from_json(text: str) -> list[Count]:
-    return counts_in(parsed(text))
+    return counts_in(json_in(text))
+
+
+def json_in(text: str) -> dict:
+    check_length(text, ",[{", MOST_VALUES, "values")
+    return parsed(text)
 
 
 def counts_in(content: dict) -> list[Count]:
     """The counts of summary.json, as this tool or a recorder in C writes it (recorders/pthread/finish/summary.c)."""
+    if content.get("recording") != VERSION:
+        raise Refusal(OTHER_VERSION % (visible(repr(content.get("recording"))[:MOST_DIGITS]), VERSION))
     counts = [count_of(entry) for entry in content["counts"]]
     counts += [Count("unseen " + reason, None) for reason in content["unseen"] if reason != "no-file"]
     started, loaded = files_in(content.get(STARTED, [])), [File(path) for path in content.get(LOADED, [])]
@@ -236,7 +273,7 @@ def text_value(value: object) -> str:
 
 def number_value(value: object) -> int:
     """A count. Anything else is damage."""
-    if type(value) is not int or value < 0:
+    if type(value) is not int or not 0 <= value < 10 ** MOST_DIGITS:
         raise ValueError("%r is no count" % (value,))
     return value
 
@@ -247,30 +284,23 @@ def read(folder: str, home: str | None = None, is_first: bool = False) -> Summar
     """The summary of a recording: none if its traces weren't made. The first one, as a recorder has written it, lacks what this tool finds out, and
     counts only where that is added."""
     try:
-        content = parsed(text_in(folder, "summary.json"))
+        content = json_in(text_in(os.path.join(folder, "summary.json")))
         if content["recorder"] not in WITH_TEXT:
             return Summary(counts_in(content), home) if is_first or STARTED not in content else None
-    except (OSError, ValueError, KeyError, TypeError, IndexError):
+    except DAMAGE:
         pass
+    raw = contents(os.path.join(folder, "SUMMARY"))
     try:
-        return Summary(parse(text_in(folder, "SUMMARY")), home)
-    except (OSError, ValueError):
+        return None if raw is None else Summary(parse(text_of(raw)), home)
+    except ValueError:
         return None
-
-
-def text_in(folder: str, name: str) -> str:
-    path = os.path.join(folder, name)
-    if not os.path.isfile(path):  # (to open a pipe would wait)
-        raise FileNotFoundError(path)
-    with open(path, encoding="utf-8", errors="surrogateescape") as file:
-        return file.read()
 
 
 def recorder_of(folder: str) -> str:
     """The name of the recorder that made a recording; empty if that isn't known."""
     try:
-        return str(parsed(text_in(folder, "summary.json"))["recorder"])
-    except (OSError, ValueError, KeyError, TypeError):
+        return str(json_in(text_in(os.path.join(folder, "summary.json")))["recorder"])
+    except DAMAGE:
         return ""
 
 

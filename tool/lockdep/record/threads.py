@@ -4,9 +4,15 @@ from __future__ import annotations
 
 import functools
 import os
+import re
+from typing import Iterable
 
-from ..base.words import visible
-from .folder import NUMBERS, OBJECTS, SIGNALS, TASKS
+from ..base.files import text_in
+from ..base.words import lines_of, visible
+from .folder import NUMBERS, OBJECTS, SIGNALS, TASKS, is_in_signals
+
+TASK = re.compile(r"task-0*(\d+)")
+MAIN = "main"  # the first thread of a process in a history, if it takes no locks
 
 
 @functools.lru_cache(maxsize=None)
@@ -19,11 +25,7 @@ def lines_in(folder: str, name: str) -> list[list[str]]:
     """The lines of a file of the recording whose traces are in a folder, each up to the second space in words; none if it isn't there."""
     if os.path.basename(folder) == OBJECTS:
         folder = os.path.dirname(folder)
-    try:
-        with open(os.path.join(folder, name), encoding="utf-8", errors="surrogateescape") as file:
-            return [line.rstrip("\n").split(" ", 2) for line in file]
-    except OSError:
-        return []
+    return [line.split(" ", 2) for line in lines_of(text_in(os.path.join(folder, name)))]
 
 
 @functools.lru_cache(maxsize=None)
@@ -42,6 +44,31 @@ def name_of_thread(trace: str) -> str | None:
     """The name of the thread of a trace, if it is known."""
     folder, file = os.path.split(trace)
     return names_in(folder).get(file)
+
+
+def folder_of(trace: str) -> str:
+    """The folder of the recording that a trace is of."""
+    folder = os.path.dirname(trace)
+    return os.path.dirname(folder) if os.path.basename(folder) == OBJECTS else os.path.dirname(os.path.dirname(folder)) if is_in_signals(folder) else folder
+
+
+def of_recording(trace: str, traces: Iterable[str]) -> str:
+    """Of which recording a thread is, behind what it is called, if one of another recording is called so, too."""
+    own = folder_of(trace)
+    others = {folder_of(other) for other in traces if os.path.basename(other) == os.path.basename(trace)} - {own}
+    is_told = all(os.path.basename(other) != os.path.basename(own) for other in others)
+    return " of " + visible((os.path.basename(own) if is_told else own) or own or ".") if others else ""
+
+
+def thread_called(task: str) -> str:
+    """What a task is called: as a thread, by the number of its trace, if a recorder gave it one."""
+    number = TASK.fullmatch(task)
+    return "thread " + number.group(1) if number else "task " + task
+
+
+def thread_of(task: str) -> str:
+    """What a task of a history is called."""
+    return "the main thread" if task == MAIN else thread_called(task)
 
 
 def called(name: str, trace: str) -> str:

@@ -3,13 +3,14 @@ summary besides."""
 from __future__ import annotations
 
 import json
+import re
 
 from ..ask.blocked import Blocked
 from ..ask.breaches import Breach
 from ..ask.signals import Signals
-from ..base.words import text_of, visible
+from ..base.words import HIDDEN, SURROGATES, text_of, visible
 from ..binaries.symbols import Frame, Symbols
-from ..program.findings import Event, Finding
+from ..program.findings import Event, Finding, event_of
 from ..program.schedules import Forced, Place
 from ..program.verdicts import Judgement
 from ..record.handlers import Handler
@@ -18,10 +19,12 @@ from ..record.threads import name_of_thread
 from .found import Found
 
 VERSION = 3
+ESCAPED = re.compile("[%s]" % "".join("%c-%c" % those for those in HIDDEN if those != SURROGATES))  # (the latter stand for bytes that aren't UTF-8)
 
 
 def compact(value: object) -> str:
-    return json.dumps(value, ensure_ascii=False, separators=(",", ":"))
+    """JSON in which characters that other forms don't show are escaped, too."""
+    return ESCAPED.sub(lambda found: "\\u%04x" % ord(found.group()), json.dumps(value, ensure_ascii=False, separators=(",", ":")))
 
 
 def json_of_checker(found: Found) -> str:
@@ -57,8 +60,9 @@ def with_places(said: object, found: Found) -> object:
         return said
     made = {name: value if name == "traces" else with_places(value, found) for name, value in said.items()}
     for name, places in (("record", "places"), ("since", "since_places")):
-        if "file" in said and name in said:
-            made[places] = frames_of(Event(str(said["file"]), int(said[name])), found)
+        event = event_of(said, name)
+        if event:
+            made[places] = frames_of(event, found)
     thread = name_of_thread(str(said.get("file", "")))
     return dict(made, thread=thread) if thread else made
 
@@ -74,7 +78,7 @@ def locks_of(finding: Finding, found: Found) -> list[dict]:
 
 def finding_json(finding: Finding, found: Found) -> dict:
     said: dict = dict(with_places(finding.json, found))
-    said["known"] = finding in found.known
+    said["known"] = found.is_known(finding)
     said.update({"library": found.reason_of(finding)} if found.reason_of(finding) else {})
     said["level"] = found.level(finding)
     said["verdict"] = (found.remarks(finding) or [""])[-1]
@@ -132,7 +136,10 @@ def happened_json(happened: Happened) -> dict:
     """The run in which a finding happened, and its threads where they stood still."""
     threads = [{"number": thread.number, "name": thread.name, "locks": thread.locks, "waits": [said_frame(frame) for frame in happened.frames(thread.waits)],
                 "took": [said_frame(frame) for frame in happened.frames(thread.holds)]} for thread in happened.threads]
-    return {"run": happened.run, "threads": threads}
+    said = {"run": happened.run, "threads": threads}
+    if happened.doubts:
+        said.update(seconds=happened.seconds, doubts=list(happened.doubts))
+    return dict(said, sent=happened.sent) if happened.sent else said
 
 
 def blocked_json(thread: Blocked, found: Found) -> dict:

@@ -2,13 +2,14 @@
 from __future__ import annotations
 
 import os
+from typing import Iterable
 
 from ..ask.verdict import gate_of_all
 from ..base.words import name_in, plain_key, stands_for_several
 from ..places.sources import Sources
 from ..program.findings import Event, Finding, Order, Use
 from ..record.kernels import is_of_kernel
-from ..record.threads import name_of_thread
+from ..record.threads import name_of_thread, of_recording
 from .judged import judged_lines
 from .lines import Item, Line
 from .steps import task_words
@@ -62,15 +63,16 @@ def occurrence_lines(finding: Finding, sources: Sources) -> list[Line]:
     return lines
 
 
-def thread_of(event: Event | None) -> str:
-    """The thread of a record, which is called as its trace and by its name, behind what a task does; empty for a trace of another name."""
+def thread_of(event: Event | None, traces: Iterable[str] = ()) -> str:
+    """The thread of a record, which is called as its trace and by its name, behind what a task does; empty for a trace of another name. It is told from threads
+    of other traces, which may be of another recording."""
     name, suffix = os.path.splitext(os.path.basename(event.file)) if event else ("", "")
     if event and suffix == ".csv" and is_of_kernel(os.path.dirname(event.file)):
         return " (%s)" % name  # it has the task's own name
     if event is None or not name.startswith("task-") or suffix != ".csv":
         return ""
-    own = name_of_thread(event.file)
-    return " (%s, %s)" % (name, own) if own else " (%s)" % name
+    own, of = name_of_thread(event.file), of_recording(event.file, traces)
+    return " (%s%s, %s)" % (name, of, own) if own else " (%s%s)" % (name, of)
 
 
 def task_lines(finding: Finding) -> list[Line]:
@@ -78,12 +80,13 @@ def task_lines(finding: Finding) -> list[Line]:
     if finding.handler:
         from .signal_text import end_lines
         return end_lines(finding)
-    parts = [words + thread_of(order.event) for words, order in zip(task_words(finding), finding.orders)]
+    traces = {event.file for event in finding.own_events()}
+    parts = [words + thread_of(order.event, traces) for words, order in zip(task_words(finding), finding.orders)]
     if finding.type != "circle":
-        parts = ["task 1 holds %s%s" % (finding.keys[-1], thread_of(finding.enabled.event))] + parts
+        parts = ["task 1 holds %s%s" % (finding.keys[-1], thread_of(finding.enabled.event, traces))] + parts
         parts.append("a %s comes in at task 1 and waits for %s" % (finding.irq, finding.keys[0]))
-    names = tuple(name_in(key) for order in finding.orders for key in (order.start, order.end))
-    return [Line("  " + part, names) for part in parts]
+    names = tuple(dict.fromkeys(name_in(key) for order in finding.orders for key in (order.start, order.end)))
+    return [Line("  " + part, () if number else names) for number, part in enumerate(parts)]  # (where a class is made is said once in a block)
 
 
 def head_line(finding: Finding) -> Line:
@@ -114,9 +117,10 @@ def inner_lines(finding: Finding, sources: Sources) -> list[Line]:
             (one.event, one.since) == (other.event, other.since) for one, other in zip(inner.orders, finding.orders))
         return [] if is_same else [line.indented(2) for line in occurrence_lines(inner, sources)]
     above = {(order.event, order.since) for order in finding.orders}
-    lines = [order_line(order, sources) for order in inner.orders if (order.event, order.since) not in above]
+    lines = [order_line(order, sources) for order in inner.orders if order.event and (order.event, order.since) not in above]
     if inner.type != "circle" and (inner.used, inner.enabled) != (finding.used, finding.enabled):
-        lines += occurrence_lines(inner, sources)[len(inner.orders):]
+        places = occurrence_lines(inner, sources)[len(inner.orders):]
+        lines += [line for line, use in zip(places, (inner.used, inner.enabled)) if use.event]
     lines += [Line("  note: " + note) for note in notes_of_locks(inner) if note not in finding.notes]
     return [line.indented(2) for line in lines]
 

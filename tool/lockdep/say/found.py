@@ -16,8 +16,13 @@ from ..places.sources import Sources
 from ..program.checker import text_answer
 from ..program.findings import Finding
 from ..record.summary import Summary
-from .groups import Group, groups_of
+from .sentences import Names, mending, row_words, rows_of, title
 from .verdict_words import remarks_of
+
+TYPE_CHECKING = False
+if TYPE_CHECKING:
+    from typing import Callable, TypeVar
+    Words = TypeVar("Words")
 
 NAME = "[a-z][a-z -]*"  # of a count
 COUNT = "^%s (\\d+)$"  # a line of the checker's report
@@ -38,14 +43,18 @@ class Found:
     waiting: list[str] = field(default_factory=list)
     blocked: list[Blocked] = field(default_factory=list)
     summary: Summary = field(default_factory=Summary)
-    confirmed: dict[int, list[str]] | None = None  # the remarks of a text of `confirm`, for a finding's number
-    of_locks: list[list[str]] = field(default_factory=list)
     raw: bytes = b""
     known_blocked: int = 0
     breaches: list[Breach] = field(default_factory=list)
     known_breaches: list[Breach] = field(default_factory=list)
     signals: Signals | None = None  # if the recording has any
     libraries: list[tuple[Finding, str]] = field(default_factory=list)  # known by the tool's own list, each with its reason
+    only_counted: bool = False  # what doesn't count with --confirmed-only is no failure of JUnit
+    all_names: Names | None = None
+    words: dict = field(default_factory=dict)  # of findings, by what makes them
+
+    def __post_init__(self) -> None:
+        self.known_ones = set(map(id, self.known))
 
     @property
     def findings(self) -> list[Finding]:
@@ -58,18 +67,56 @@ class Found:
         return self.known_blocked > 0 or bool(self.known_breaches) or any(not finding.is_note for finding in self.known)
 
     @property
-    def groups(self) -> list[Group]:
-        return groups_of(self.findings)
+    def names(self) -> Names:
+        """What the locks of all findings are called."""
+        if self.all_names is None:
+            self.all_names = Names(self.new + self.known, self.sources)
+        return self.all_names
+
+    @property
+    def shown(self) -> list[Finding]:
+        """The findings that are shown one by one, by a form for people."""
+        return self.findings
+
+    @property
+    def why_undrawn(self) -> str:
+        """Why there is no picture of these findings; empty if there may be one."""
+        return ""
+
+    def is_known(self, finding: Finding) -> bool:
+        return id(finding) in self.known_ones
+
+    def once(self, make: Callable[..., Words], finding: Finding, *more: object) -> Words:
+        """What a function makes of a finding, for all forms that say it."""
+        key = make, id(finding)
+        if key not in self.words:
+            self.words[key] = make(finding, *more)
+        return self.words[key]
+
+    def title(self, finding: Finding) -> str:
+        """What is wrong, in a line."""
+        return self.once(title, finding, self.names)
+
+    def rows(self, finding: Finding) -> list[str]:
+        """What each thread does, in words."""
+        return list(map(row_words, self.once(rows_of, finding, self.sources, self.names)))
 
     def remarks(self, finding: Finding) -> list[str]:
         """What else is said about a finding: its notes, and its verdict."""
-        if self.confirmed is not None:
-            return self.confirmed.get(finding.number, [])
-        return remarks_of(finding, self.recorded)
+        return self.once(remarks_of, finding, self.recorded)
+
+    def all_remarks(self, finding: Finding) -> list[str]:
+        """The remarks, and what mends a cycle; of a signal that is a remark."""
+        mend = "" if finding.handler else self.once(mending, finding, self.sources, self.recorded, self.names)
+        return self.remarks(finding) + (["to mend it: " + mend] if mend else [])
+
+    def verdict_of(self, finding: Finding) -> str:
+        """The verdict behind a finding in a list; empty if nothing was asked, or if the traces are of a kernel."""
+        return ": " + finding.verdict.words if finding.verdict and not self.recorded.is_kernels() else ""
 
     def level(self, finding: Finding) -> str:
         """SARIF's level, by the verdict."""
-        if finding in self.known or finding.is_note:
+        if self.is_known(finding) or finding.is_note:
             return "note"
         return "error" if finding.is_counted else "warning"
 

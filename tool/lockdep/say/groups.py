@@ -8,14 +8,21 @@ from ..program.findings import Finding
 
 Dependency = Tuple[str, str, str]
 Key = Tuple[Dependency, object]  # an order, and a signal's handler if the findings have one
+MOST_GROUPS = 20  # that are told at once, on a terminal and of what was gathered
+MOST_OTHERS = 20  # findings of a group of what was gathered that are named, besides the first one
 
 
 @dataclass
 class Group:
-    """Findings, in their order, that all have one order, which is empty if there is only one finding."""
+    """Findings, in their order, that all have one order; nothing if there is only one finding."""
 
     findings: list[Finding]
-    shared: str = ""
+    order: Dependency | None = None
+
+    @property
+    def shared(self) -> str:
+        """The order as a report has it; empty if there is none."""
+        return " ".join(self.order or ())
 
 
 def holders_of(findings: list[Finding]) -> dict[Key, list[Finding]]:
@@ -31,11 +38,16 @@ def groups_of(findings: list[Finding]) -> list[Group]:
     """The groups, each where its first finding stands. The order that most findings have makes the first group, and so on with
     those that are left."""
     holders, groups, left = holders_of(findings), [], {finding.number for finding in findings}
-    for key in sorted(holders, key=lambda key: -len(holders[key])):
+    for key in sorted([key for key in holders if len(holders[key]) > 1], key=lambda key: -len(holders[key])):
         members = [finding for finding in holders[key] if finding.number in left]
         if len(members) > 1:
-            groups.append(Group(members, " ".join(key[0])))
+            groups.append(Group(members, key[0]))
             left -= {finding.number for finding in members}
     groups += [Group([finding]) for finding in findings if finding.number in left]
     place = {finding.number: number for number, finding in enumerate(findings)}
     return sorted(groups, key=lambda group: place[group.findings[0].number])
+
+
+def groups_told(findings: list[Finding]) -> list[Group]:
+    """The groups of what was gathered that are told: each finding by itself, unless there are too many; then the first groups."""
+    return [Group([finding]) for finding in findings] if len(findings) <= MOST_GROUPS else groups_of(findings)[:MOST_GROUPS]

@@ -8,8 +8,8 @@ from ..binaries.symbols import place_words
 from ..finish.joins import THREAD
 from ..places.sources import Sources
 from ..program.findings import Event, Finding
-from ..program.schedules import Forced, Ring
-from ..record.threads import name_of_thread
+from ..program.schedules import Forced, Ring, Waiting
+from ..record.threads import name_of_thread, thread_of
 from .steps import MODES, awaited
 
 WRITER = "w"
@@ -45,23 +45,27 @@ def ring_of(finding: Finding) -> Ring | None:
     return finding.judged.ring if finding.judged else None
 
 
+def in_turn(ring: Ring) -> list[Waiting]:
+    """What the tasks of a ring wait for, in the order in which the schedule has them go on."""
+    turns = [place.task for place in ring.schedule]
+    return sorted(ring.waits, key=lambda waiting: turns.index(waiting.place.task) if waiting.place.task in turns else len(turns))
+
+
 def steps_of_ring(ring: Ring) -> list[RingStep]:
     """What the tasks of a ring do at last: each takes what another one waits for, in the order of the schedule, and then all wait, writers first, since a reader
     may wait behind one."""
-    locks = {waiting.lock for waiting in ring.waits}
-    turns = [place.task for place in ring.schedule]
-    tasks = sorted(ring.waits, key=lambda waiting: turns.index(waiting.place.task) if waiting.place.task in turns else len(turns))
+    locks, tasks = {waiting.lock for waiting in ring.waits}, in_turn(ring)
     takes = [RingStep(waiting.place.task, "takes", held.key, held.mode, held.event) for waiting in tasks for held in waiting.holds if held.key in locks]
     waits = sorted(tasks, key=lambda waiting: waiting.mode != WRITER)
     return takes + [RingStep(waiting.place.task, "waits for", waiting.lock, waiting.mode, waiting.place.event) for waiting in waits]
 
 
 def called(task: str, finding: Finding) -> str:
-    """A task, with the name of its thread if that is known."""
+    """A task of a history as a thread, with its name if that is known."""
     events = finding.own_events()
     folder = events[0].file.rpartition("/")[0] if events else ""
     name = name_of_thread("%s/%s.csv" % (folder, task))
-    return "%s (%s)" % (task, name) if name else task
+    return "%s (%s)" % (thread_of(task), name) if name else thread_of(task)
 
 
 def place_of(event: Event | None, sources: Sources) -> str:

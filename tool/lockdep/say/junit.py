@@ -1,4 +1,4 @@
-"""The findings as JUnit: one suite, with a failed case for each finding."""
+"""The findings as JUnit: one suite, with a failed case for each finding, or a skipped one where that doesn't make the status."""
 from __future__ import annotations
 
 import time
@@ -10,7 +10,9 @@ from ..binaries.symbols import place_words
 from ..program.findings import Finding
 from .found import Found, moment
 from .judged import judged_lines
-from .steps import Step, sentence, steps_of, task_name, words_of_step
+from .steps import Step, steps_of, task_name, words_of_step
+
+FAILURE, SKIPPED = "failure", "skipped"
 
 
 def step_words(finding: Finding, step: Step) -> str:
@@ -24,24 +26,32 @@ def step_line(finding: Finding, step: Step, found: Found) -> str:
     return "  %s%s" % (step_words(finding, step), ", " + place if place else "")
 
 
-def failed_case(kind: str, name: str, message: str, lines: list[str]) -> str:
+def case(element: str, kind: str, name: str, message: str, lines: list[str]) -> str:
+    """A case that isn't passed; what is skipped has no type."""
+    of_type = ' type="%s"' % escaped(kind) if element == FAILURE else ""
     return """<testcase classname="lockdep.%s" name="%s" time="0">
-<failure type="%s" message="%s">%s</failure>
+<%s%s message="%s">%s</%s>
 </testcase>
-""" % (escaped(kind), escaped(name), escaped(kind), escaped(message), "".join(escaped(line) + "\n" for line in lines))
+""" % (escaped(kind), escaped(name), element, of_type, escaped(message), "".join(escaped(line) + "\n" for line in lines), element)
+
+
+def is_skipped(finding: Finding, found: Found) -> bool:
+    return found.only_counted and not finding.is_counted
 
 
 def finding_case(finding: Finding, found: Found) -> str:
-    """A failed case: the sentence, and each step with its place."""
-    lines = [sentence(finding)] + [step_line(finding, step, found) for step in steps_of(finding)] + found.remarks(finding)
+    """The finding in plain words, and each step with its place."""
+    lines = [found.title(finding)] + found.rows(finding)
+    lines += [step_line(finding, step, found) for step in steps_of(finding)] + found.all_remarks(finding)
     lines += ["  " + line for line in judged_lines(finding, found.sources)]
     lines += finding.happened.lines() if finding.happened else []
-    return failed_case(finding.rule, finding.head, sentence(finding), lines)
+    element, verdict = (SKIPPED, found.verdict_of(finding)) if is_skipped(finding, found) else (FAILURE, "")
+    return case(element, finding.rule, finding.head, found.title(finding) + verdict, lines)
 
 
 def blocked_case(thread: Blocked | Breach, found: Found) -> str:
     lines = [thread.sentence] + ["  %s, %s" % (words, place_words(found.sources.frames(event))) for words, event in thread.lines()]
-    return failed_case(thread.type, thread.name, thread.sentence, lines)
+    return case(FAILURE, thread.type, thread.name, thread.sentence, lines)
 
 
 def junit(found: Found) -> str:
@@ -49,14 +59,15 @@ def junit(found: Found) -> str:
     error, and none is passed."""
     cases = [finding_case(finding, found) for finding in found.findings] + [blocked_case(thread, found) for thread in
                                                                             found.blocked + found.breaches]
-    failures = len(cases)
+    skipped = sum(is_skipped(finding, found) for finding in found.findings)
+    failures = len(cases) - skipped
     if found.left_out:
         said = escaped("Not all was checked. Left out: %s." % found.left_out)
         cases.append('<testcase classname="lockdep" name="left out" time="0">\n<error type="left out" message="%s"/>\n'
                      "</testcase>\n" % said)
     elif not cases:
         cases.append('<testcase classname="lockdep" name="%s" time="0"/>\n' % ("no new finding" if found.has_known else "no finding"))
-    counts = 'tests="%d" failures="%d" errors="%d" skipped="0" time="0"' % (len(cases), failures, 1 if found.left_out else 0)
+    counts = 'tests="%d" failures="%d" errors="%d" skipped="%d" time="0"' % (len(cases), failures, 1 if found.left_out else 0, skipped)
     return """<?xml version="1.0" encoding="UTF-8"?>
 <testsuites name="lockdep" %s>
 <testsuite name="lockdep" %s timestamp="%s">

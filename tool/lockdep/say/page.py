@@ -11,6 +11,7 @@ from ..base.words import as_sentence, counted, escaped, text_of
 from ..program.checker import version
 from ..program.findings import Finding
 from .found import HANG, Found, moment
+from .groups import groups_of
 from .page_finding import blocked_html, breach_html, finding_html
 from .picture import picture_of
 
@@ -83,7 +84,9 @@ def header(found: Found) -> str:
         said += '<p class="note">The tool’s own list of libraries has %s of these: %s.</p>\n' % (
             sum(other == reason for _, other in found.libraries), escaped(reason))
     if found.findings:
-        return said + finding_list(found.findings, "Findings") + legend(found.findings) + "</header>\n"
+        left = len(found.findings) - len(found.shown)
+        more = "<p>%s not on this page. The JSON, SARIF and JUnit have all.</p>\n" % counted(left, "more finding is", "more findings are") if left else ""
+        return said + finding_list(found.shown, "Findings", found) + more + legend(found.shown) + "</header>\n"
     return said + "<p>This says nothing about what isn’t in the traces.</p>\n</header>\n"
 
 
@@ -91,25 +94,16 @@ def legend(findings: list[Finding]) -> str:
     return LEGEND % (LEGEND_OF_SIGNALS if any(finding.handler for finding in findings) else "")
 
 
-def finding_list(findings: list[Finding], label: str, last: str = "") -> str:
-    """The findings, one line each, with links to them, and a last item of another kind."""
-    lines = "".join('<li class="of-%d"><a href="#finding-%d"><code>%s</code></a></li>\n' % (
-        finding.number, finding.number, escaped(finding.head)) for finding in findings)
+def finding_list(findings: list[Finding], label: str, found: Found, last: str = "") -> str:
+    """The findings, one line each with its verdict, with links to them, and a last item of another kind."""
+    lines = "".join('<li class="of-%d"><a href="#finding-%d" title="%s">%s</a>%s</li>\n' % (
+        finding.number, finding.number, escaped(finding.head), escaped(found.title(finding)), found.verdict_of(finding)) for finding in findings)
     return '<nav aria-label="%s">\n<ol class="list" style="--digits: %d">\n%s</ol>\n</nav>\n' % (
         label, len(str(len(findings))), lines + last)
 
 
 def section(name: str, title: str, said: str) -> str:
     return '<section id="%s" aria-labelledby="%s-head">\n<h2 id="%s-head">%s</h2>\n%s</section>\n' % (name, name, name, title, said)
-
-
-def of_locks_html(blocks: list[list[str]]) -> str:
-    """The cycles of single locks that combine orders of several findings."""
-    if not blocks:
-        return ""
-    said = "".join('<pre tabindex="0"><code>%s</code></pre>\n' % "".join(escaped(line) + "\n" for line in block)
-                   for block in blocks)
-    return section("locks", "Cycles of single locks", '<p class="soft">Each combines orders of several findings.</p>\n' + said)
 
 
 def threads_html(threads: list[Blocked], found: Found) -> str:
@@ -124,11 +118,11 @@ def breaches_html(found: Found) -> str:
     return section("breaches", "Against what the program says of its locks", said) if said else ""
 
 
-def picture_html(findings: list[Finding], drawn: str, reason: str) -> str:
+def picture_html(findings: list[Finding], drawn: str, reason: str, found: Found) -> str:
     """The picture with the findings beside it, or why there is none."""
     if drawn:
         drawn = '<li class="drawn"><div class="scroll" tabindex="0" role="region" aria-label="Picture">\n%s\n</div></li>\n' % drawn
-        said = LEGEND_OF_PICTURE + finding_list(findings, "Findings in the picture", drawn)
+        said = LEGEND_OF_PICTURE + finding_list(findings, "Findings in the picture", found, drawn)
     elif reason:
         command = "lockdep graph --findings --many FILE... | dot -Tsvg &gt;locks.svg"
         said = "<p>%s <code>%s</code> draws it elsewhere.</p>\n" % (escaped(reason), command)
@@ -152,7 +146,7 @@ def needs_html(found: Found) -> str:
 def groups_html(found: Found) -> Callable[[Finding], str]:
     """For a finding of a group, what the others have in common with it."""
     said = {}
-    for group in found.groups:
+    for group in groups_of(found.shown):
         links = ", ".join('<a href="#finding-%d">%d</a>' % (finding.number, finding.number) for finding in group.findings)
         for finding in group.findings if group.shared else ():
             said[finding.number] = '<p class="soft">Findings that have the order <code>%s</code>: %s</p>\n' % (escaped(group.shared), links)
@@ -161,8 +155,8 @@ def groups_html(found: Found) -> Callable[[Finding], str]:
 
 def page(found: Found) -> str:
     """The whole page."""
-    in_picture = [finding for finding in found.findings if not finding.handler]
-    drawn, reason = picture_of(in_picture, found.class_files())
+    in_picture = [finding for finding in found.shown if not finding.handler]
+    drawn, reason = ("", found.why_undrawn) if found.why_undrawn else picture_of(in_picture, found.class_files())
     of_group = groups_html(found)
     return """<!DOCTYPE html>
 <html lang="en">
@@ -180,5 +174,5 @@ def page(found: Found) -> str:
 </body>
 </html>
 """ % (title_of(found), style(), lighting(in_picture) if drawn else "", header(found), needs_html(found),
-       threads_html(found.blocked, found) + breaches_html(found) + "".join(finding_html(finding, found, of_group(finding)) for finding in found.findings) +
-       of_locks_html(found.of_locks), picture_html(in_picture, drawn, reason))
+       threads_html(found.blocked, found) + breaches_html(found) + "".join(finding_html(finding, found, of_group(finding)) for finding in found.shown),
+       picture_html(in_picture, drawn, reason, found))

@@ -13,22 +13,23 @@ from ..binaries.symbols import Frame, place_words
 from ..places.sources import Sources, has_changed
 from ..program.findings import Event, Finding
 from ..program.schedules import Ring
+from ..program.verdicts import Verdict
 from ..record.handlers import words_of_handler
-from ..record.threads import called
+from ..record.threads import called, of_recording
 from .explanation import inner_lines
 from .found import Found
 from .judged import called as called_task
 from .judged import judged_lines, ring_of, steps_of_ring
-from .steps import Step, events_of, sentence, steps_of, task_count, task_name, words_of_step
+from .steps import Step, events_of, steps_of, task_count, task_name, words_of_step
 
 REM_OF_TASK = 12  # how wide a task's column is, at least
-
+DEADLOCK = "Deadlock"
 
 TABLE = """<div class="scroll" tabindex="0" role="region" aria-label="%s">
 <table class="tasks" style="min-width: %drem">
 <thead><tr><th class="time" scope="col" aria-label="Time">↓</th>%s</tr></thead>
 <tbody>
-%s<tr><td class="time"></td><td class="end" colspan="%d">Deadlock</td></tr>
+%s<tr><td class="time"></td><td class="end" colspan="%d">%s</td></tr>
 </tbody>
 </table>
 </div>
@@ -52,11 +53,13 @@ def bare(frame: Frame) -> Frame:
 def step_html(finding: Finding, step: Step, events: list[Event], sources: Sources) -> str:
     """What a task does at one point, with a link to the record."""
     said = '<span class="%s">%s</span>' % (step.verb, words_of_step(step, key_html(sources)))
-    if step.event:
-        place = place_words([bare(frame) for frame in sources.frames(step.event)[:1]])
-        place = place or "%s: record %d" % (os.path.basename(step.event.file), step.event.record)
-        said += '<br><a href="#record-%d-%d">%s</a>' % (finding.number, events.index(step.event) + 1, escaped(place))
-    return said
+    return said + ("<br>" + link_html(finding, step.event, events, sources) if step.event else "")
+
+
+def link_html(finding: Finding, event: Event, events: list[Event], sources: Sources) -> str:
+    """Where a step comes from, with a link to its record."""
+    place = place_words([bare(frame) for frame in sources.frames(event)[:1]]) or "%s: record %d" % (os.path.basename(event.file), event.record)
+    return '<a href="#record-%d-%d">%s</a>' % (finding.number, list(dict.fromkeys(events)).index(event) + 1, escaped(place))
 
 
 def task_title(finding: Finding, task: int, sources: Sources) -> str:
@@ -76,7 +79,8 @@ def task_head(finding: Finding, steps: list[Step], task: int, sources: Sources) 
         return '<th scope="col">%s</th>' % title
     trace = files.pop()
     name = os.path.join(*trace.split("/")[-3:]) if finding.handler else os.path.basename(trace)  # (below `signals`, a set has traces of its own)
-    return '<th scope="col">%s<br><small>%s</small></th>' % (title, escaped(called(name, trace)))
+    of = of_recording(trace, {step.event.file for step in steps if step.event})
+    return '<th scope="col">%s<br><small>%s</small></th>' % (title, escaped(called(name + of, trace)))
 
 
 def task_rows(finding: Finding, steps: list[Step], sources: Sources) -> str:
@@ -89,11 +93,16 @@ def task_rows(finding: Finding, steps: list[Step], sources: Sources) -> str:
     return rows
 
 
+def end_of(finding: Finding) -> str:
+    """What stands below the tasks: that they come so far is known only of what is possible."""
+    return DEADLOCK if finding.verdict in (Verdict.HAPPENED, Verdict.POSSIBLE) else DEADLOCK + ", if they come so far together"
+
+
 def task_table(finding: Finding, steps: list[Step], sources: Sources) -> str:
     """The tasks side by side: a column for each, with time running downwards."""
     tasks = task_count(steps)
     heads = "".join(task_head(finding, steps, task, sources) for task in range(tasks))
-    return TABLE % ("What the tasks of finding %d do" % finding.number, REM_OF_TASK * tasks, heads, task_rows(finding, steps, sources), tasks)
+    return TABLE % ("What the tasks of finding %d do" % finding.number, REM_OF_TASK * tasks, heads, task_rows(finding, steps, sources), tasks, end_of(finding))
 
 
 def excerpt_html(frame: Frame, event: Event, sources: Sources) -> str:
@@ -113,12 +122,13 @@ def excerpt_html(frame: Frame, event: Event, sources: Sources) -> str:
 
 
 def record_html(name: str, event: Event, sources: Sources) -> str:
-    """A record: its text in the trace, where it comes from, and the source around that."""
-    said = '<div class="record" id="%s">\n<p>' % name
-    said += "<code>%s</code>: record %d" % (escaped(event.file), event.record)
+    """A record: its text in the trace, unless it is one of a history, where it comes from, and the source around that."""
+    said = ""
     if event in sources.records:
-        said += ", line %d: <code>%s</code>" % (sources.records[event][0], escaped(sources.records[event][1]))
-    return said + "</p>\n" + place_html(event, sources) + "</div>\n"
+        said = ", line %d: <code>%s</code>" % (sources.records[event][0], escaped(sources.records[event][1]))
+    if said or not sources.frames(event):
+        said = "<p><code>%s</code>: record %d%s</p>\n" % (escaped(event.file), event.record, said)
+    return '<div class="record" id="%s">\n%s%s</div>\n' % (name, said, place_html(event, sources))
 
 
 def place_html(event: Event, sources: Sources) -> str:
@@ -148,40 +158,47 @@ def stood_html(finding: Finding) -> str:
     return '<h3>Where its threads stood still</h3>\n<pre tabindex="0"><code>%s</code></pre>\n' % lines if lines else ""
 
 
-def schedule_html(finding: Finding, sources: Sources) -> str:
-    """The schedule in which the tasks stand still side by side, or the steps that keep them from it."""
+def why_html(finding: Finding, sources: Sources) -> str:
+    """The steps that keep the tasks of a cycle apart, if such are known."""
     ring = ring_of(finding)
-    if ring and ring.schedule:
-        return "<h3>The recorded steps that stand still, in another order</h3>\n" + ring_table(finding, ring, sources)
-    lines = "".join(escaped(line) + "\n" for line in judged_lines(finding, sources))
+    lines = "".join(escaped(line) + "\n" for line in judged_lines(finding, sources)) if ring and not ring.schedule else ""
     return '<h3>What keeps these steps apart</h3>\n<pre tabindex="0"><code>%s</code></pre>\n' % lines if lines else ""
 
 
 def ring_table(finding: Finding, ring: Ring, sources: Sources) -> str:
     """The tasks of a ring side by side: what each takes and waits for at last."""
     steps = steps_of_ring(ring)
-    tasks = list(dict.fromkeys(step.task for step in steps))
-    titles = {task: escaped(called_task(task, finding)) for task in tasks}
+    tasks, events = list(dict.fromkeys(step.task for step in steps)), [step.event for step in steps]
+    titles = {task: escaped(name[:1].upper() + name[1:]) for task in tasks for name in [called_task(task, finding)]}
     heads = "".join('<th scope="col">%s</th>' % titles[task] for task in tasks)
     rows = ""
     for number, step in enumerate(steps, 1):
-        place = escaped(place_words([bare(frame) for frame in sources.frames(step.event)[:1]]) or "record %d" % step.event.record)
-        said = '<span class="%s">%s</span><br>%s' % (step.verb.partition(" ")[0], escaped(step.words), place)
+        said = '<span class="%s">%s</span><br>%s' % (step.verb.partition(" ")[0], escaped(step.words), link_html(finding, step.event, events, sources))
         rows += '<tr><td class="time">%d</td>%s</tr>\n' % (number, "".join('<td data-task="%s">%s</td>' % (
             titles[task], said if task == step.task else "") for task in tasks))
-    return TABLE % ("What the threads of finding %d do in another order" % finding.number, REM_OF_TASK * len(tasks), heads, rows, len(tasks))
+    return TABLE % ("What the threads of finding %d do in another order" % finding.number, REM_OF_TASK * len(tasks), heads, rows, len(tasks), DEADLOCK)
+
+
+def steps_html(finding: Finding, sources: Sources) -> str:
+    """The tasks side by side, by the steps that stand still if there are such, and the record of each step."""
+    ring, steps = ring_of(finding), steps_of(finding)
+    if ring and ring.schedule:
+        said, events = "<h3>The recorded steps that stand still, in another order</h3>\n" + ring_table(finding, ring, sources), [
+            step.event for step in steps_of_ring(ring)]
+    else:
+        said, events = task_table(finding, steps, sources) if steps else "", events_of(steps)
+    records = "".join(record_html("record-%d-%d" % (finding.number, place), event, sources) for place, event in enumerate(dict.fromkeys(events), 1))
+    return said + ("<h3>The records</h3>\n" + records if records else "")
 
 
 def finding_html(finding: Finding, found: Found, group: str = "") -> str:
-    number, sources, steps = finding.number, found.sources, steps_of(finding)
+    number, sources = finding.number, found.sources
     said = '<article id="finding-%d" aria-labelledby="head-%d">\n' % (number, number)
-    said += '<h2 id="head-%d">%d. <code>%s</code></h2>\n' % (number, number, escaped(finding.head))
-    said += "<p>%s</p>\n" % sentence(finding, key_html(sources))
-    said += "".join('<p class="note">%s</p>\n' % escaped(as_sentence(remark)) for remark in found.remarks(finding)) + group
-    said += stood_html(finding) + schedule_html(finding, sources) + (task_table(finding, steps, sources) + "<h3>The records</h3>\n" if steps else "")
-    for place, event in enumerate(events_of(steps), 1):
-        said += record_html("record-%d-%d" % (number, place), event, sources)
-    said += inner_html(finding, sources) + lock_lines(finding, steps, sources)
+    said += '<h2 id="head-%d" title="%s">%d. %s</h2>\n' % (number, escaped(finding.head), number, escaped(found.title(finding)))
+    said += '<ul class="list">\n%s</ul>\n' % "".join("<li>%s</li>\n" % escaped(row) for row in found.rows(finding))
+    said += "".join('<p class="note">%s</p>\n' % escaped(as_sentence(remark)) for remark in found.all_remarks(finding)) + group
+    said += stood_html(finding) + why_html(finding, sources) + steps_html(finding, sources)
+    said += inner_html(finding, sources) + lock_lines(finding, steps_of(finding), sources)
     lines = "".join(escaped(line) + "\n" for line in finding.lines)
     said += '<details><summary class="soft">Its lines in the report, as a list of known findings has them</summary>'
     return said + '<pre tabindex="0"><code>%s</code></pre></details>\n</article>\n' % lines

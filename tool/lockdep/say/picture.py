@@ -74,5 +74,5 @@ def picture_of(findings: list[Finding], files: list[str]) -> tuple[str, str]:
     except xml.etree.ElementTree.ParseError:
         root = None
     if root is None or not str(root.tag).endswith("svg"):
-        return "", "Graphviz couldn’t draw the picture, or took more than %d seconds." % PATIENCE_WITH_DOT
+        return "", "Graphviz couldn’t draw the picture, or took more than %d seconds of processor time." % PATIENCE_WITH_DOT
     return svg_text(root, numbers), ""

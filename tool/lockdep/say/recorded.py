@@ -93,11 +93,11 @@ def finish_again(home: str, path: str, frames: str) -> int:
     folder = Folder(checked(path))
     if not os.path.isdir(folder.path):
         raise Refusal(NOTHING_TO_MAKE % folder.path)
-    become_script(home, folder)
     folder.lock()
     is_unpacked = not folder.mark()
     if is_unpacked:
         traces.unpack(folder)
+    become_script(home, folder)
     settings = read_settings(folder.raw, frames)
     if not traces.can_be_made_again(home, folder, settings):
         if is_unpacked:

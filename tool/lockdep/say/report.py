@@ -10,6 +10,7 @@ from ..ask.asking import Asked, ask_about
 from ..base.files import complain
 from ..base.saying import Refusal
 from ..base.words import bytes_of, counted, visible
+from ..program.verdicts import Verdict
 from ..record.losses import BREACHES
 from ..record.notes import WAITING
 from ..record.summary import Summary
@@ -37,12 +38,12 @@ class ReportOptions:
 
     def __init__(self, known: str = "", known_text: str = "", write_known: str = "", quiet: bool = False, error_exitcode: int | None = None,
                  confirmed_only: bool = False, strict_known: bool = False, html: str = "", sarif: str = "", junit: str = "",
-                 json: str = "", no_libraries: bool = True) -> None:
+                 json: str = "", no_libraries: bool = True, verbose: bool = False, color: str = "") -> None:
         self.known, self.known_text, self.write_known = known, known_text, write_known
         self.quiet, self.error_exitcode = quiet, error_exitcode
         self.confirmed_only, self.strict_known = confirmed_only, strict_known
         self.html, self.sarif, self.junit, self.json = html, sarif, junit, json
-        self.no_libraries = no_libraries
+        self.no_libraries, self.verbose, self.color = no_libraries, verbose, color
 
     def entries_of_libraries(self) -> list[Entry]:
         from ..base.files import text_in
@@ -58,10 +59,10 @@ class ReportOptions:
 
 class Recording:
     """What is known of a recording when its traces are there: its summary, what was left out, if anything, in words, and how the
-    command ended. `say_messages` prints what the recorder said, if it wasn't printed yet."""
+    command ended. `say_messages` prints what the recorder said, if it wasn't printed yet, and perhaps not who waited at the end."""
 
     def __init__(self, folder: str, summary: Summary, lost: str = "", status: int = 0, command_end: str = "",
-                 say_messages: Callable[[], None] = lambda: None) -> None:
+                 say_messages: Callable[[bool], None] = lambda who_waited: None) -> None:
         self.folder, self.summary, self.lost = folder, summary, lost
         self.status, self.command_end, self.say_messages = status, command_end, say_messages
 
@@ -144,6 +145,12 @@ class Report:
         hung = is_hung(self.recording.summary)
         return hung and (bool(self.blocked) or not hides_blocked(self.options.known_text))
 
+    @property
+    def is_said_of_all(self) -> bool:
+        """Whether a finding says of each blocked thread how it stood, in a text that isn't to have all that is known."""
+        stood = [finding for finding in self.new if finding.verdict is Verdict.HAPPENED]
+        return not self.options.verbose and bool(stood) and all(thread.is_cycle for thread in self.blocked)
+
     # ---- Files.
 
     def write_files(self) -> None:
@@ -187,7 +194,8 @@ class Report:
         from ..base.files import write_in_place
         from ..known.known import list_of
         name = self.options.write_known
-        text = list_of(self.asked.findings(), text_in(name), self.sources, self.asked.traces, self.all_breaches, self.options.entries_of_libraries())
+        text = list_of(self.asked.findings(), text_in(name), self.sources, self.asked.traces, self.all_breaches, self.options.entries_of_libraries(),
+                       name)
         try:
             write_in_place(bytes_of(name), bytes_of(text))
         except OSError:
@@ -207,29 +215,15 @@ class Report:
 
     def say_of_known(self) -> None:
         self.say_of_libraries()
-        if not self.sorted or not self.options.known:
-            return
-        name, result = visible(self.options.known), self.sorted
-        if result.known_lines:
-            say("%s of the report left out, since %s lists them" % (counted(result.known_lines, "line"), name))
-        if result.known_blocked:
-            say("%s left out, since %s lists them" % (counted(result.known_blocked, "blocked thread"), name))
-        if result.known_breaches:
-            say("%s left out, since %s lists them" % (counted(len(result.known_breaches), "breach", "breaches"), name))
-        for stale in result.stale:
-            say("%s is stale in %s" % (name, stale))
-        if result.moved:
-            say("%s has other source lines for these names, so its entries may hide other findings; look at them, and write it again "
-                "by --write-known: %s" % (name, ", ".join(result.moved)))
-        for line in result.gone:
-            say("known, and not found this time: %s" % line)
+        for words in known_lines(self.options.known, self.sorted) if self.sorted and self.options.known else ():
+            say(words)
 
     def explain(self) -> None:
         """Writes the explanation of what is new, with source lines."""
-        from .groups import groups_of
+        from .groups import MOST_GROUPS, groups_of
         from ..binaries.symbols import has_addr2line
-        from .terminal import Writer, width_of
-        from .text import MOST_GROUPS, Text
+        from .terminal import Writer, is_coloured, width_of
+        from .text import Text
         news = counted(len(self.new) + len(self.breaches), "finding")
         news = "new: " + news if self.options.known else news
         is_named = self.page not in ("", STANDARD_OUTPUT)
@@ -238,7 +232,7 @@ class Report:
             say("addr2line isn't there, so places are modules and offsets; it is a part of binutils")
         stream = StringIO()
         width = width_of(sys.stderr)
-        text = Text(Writer(stream, width), self.sources, self.recorded)
+        text = Text(Writer(stream, width, is_coloured(sys.stderr, self.options.color)), self.sources, self.recorded, self.new, self.options.verbose)
         left = text.groups(groups_of(self.new), MOST_GROUPS if width else None)
         for breach in self.breaches:
             text.breach(breach)
@@ -274,14 +268,14 @@ class Report:
         nothing = "nothing new" if self.sorted and (self.sorted.known_lines or self.sorted.libraries) else "nothing"
         is_stale = bool(self.sorted and self.sorted.stale)
         if self.has_new or self.is_hung:
-            self.recording.say_messages()
+            self.recording.say_messages(not self.is_said_of_all)
             self.say_of_known()
             if self.has_new:
                 self.explain()
                 self.say_uncounted()
             else:
                 say("%s was found but that a thread waited for a lock at the end" % nothing)
-            if self.blocked:
+            if self.blocked and not self.is_said_of_all:
                 self.say_blocked()
             self.say_end()
             if self.is_judged_in_part:
@@ -290,7 +284,7 @@ class Report:
             self.say_of_known()
             raise Refusal("%s was found, but what was left out wasn't checked, so this run isn't judged" % nothing)
         elif not self.options.quiet or is_stale:
-            self.recording.say_messages()
+            self.recording.say_messages(True)
             self.say_of_known()
             say("%s was found%s" % (nothing, "; " + self.note_words() if self.notes else ""))
             self.say_end()
@@ -327,6 +321,19 @@ class Report:
         return NOT_JUDGED if self.is_unwritten else self.recording.status
 
 
+def known_lines(known: str, result: Sorted) -> list[str]:
+    """What is to be said of a list of known findings."""
+    name = visible(known)
+    counts = ((result.known_lines, ("line of the report", "lines of the report")), (result.known_blocked, ("blocked thread", "blocked threads")),
+              (len(result.known_breaches), ("breach", "breaches")))
+    lines = ["%s left out, since %s lists them" % (counted(count, *words), name) for count, words in counts if count]
+    lines += ["%s is stale in %s" % (name, stale) for stale in result.stale]
+    if result.moved:
+        lines.append("%s has other source lines for these names, so its entries may hide other findings; look at them, and write it again by "
+                     "--write-known: %s" % (name, ", ".join(result.moved)))
+    return lines + ["known, and not found this time: %s" % line for line in result.gone]
+
+
 def found_of(report: Report) -> Found:
     """What the forms of a run show."""
     from ..ask.verdict import Recorded
@@ -338,7 +345,7 @@ def found_of(report: Report) -> Found:
         return Found([], [], Sources(), Recorded(files), files, recording.lost, waits, summary=recording.summary, signals=signals)
     return Found(result.new, result.known, report.sources, report.recorded, files, recording.lost, waits, report.blocked,
                  recording.summary, known_blocked=result.known_blocked, breaches=report.breaches,
-                 known_breaches=result.known_breaches, signals=signals, libraries=result.libraries)
+                 known_breaches=result.known_breaches, signals=signals, libraries=result.libraries, only_counted=report.options.confirmed_only)
 
 
 def is_hung(summary: Summary) -> bool:

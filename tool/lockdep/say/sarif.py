@@ -18,7 +18,7 @@ from ..record.provoked import Happened, Stood
 from .found import HANG, Found
 from .judged import judged_lines, ring_of, step_line, steps_of_ring
 from .junit import step_words
-from .steps import Step, sentence, steps_of, task_count, task_name
+from .steps import Step, steps_of, task_count, task_name
 
 SCHEMA = "https://docs.oasis-open.org/sarif/sarif/v2.1.0/errata01/os/schemas/sarif-schema-2.1.0.json"
 
@@ -136,12 +136,13 @@ def flows_of_ring(finding: Finding, sources: Sources) -> list[dict]:
 
 
 def finding_result(finding: Finding, found: Found) -> dict:
-    sentences = [finding.head + ".", sentence(finding)] + [as_sentence(remark) for remark in found.remarks(finding) + judged_lines(finding, found.sources)]
+    sentences = [line + "." for line in (found.title(finding), *found.rows(finding))]
+    sentences += [as_sentence(remark) for remark in found.all_remarks(finding) + judged_lines(finding, found.sources)]
     result = {"ruleId": finding.rule, "level": found.level(finding), "message": {"text": sarif_text(" ".join(sentences))},
               "partialFingerprints": {"lockdepLines/v1": fingerprint(finding.lines)}}
     if finding.rule in ALL_RULES:
         result["ruleIndex"] = list(ALL_RULES).index(finding.rule)
-    if finding in found.known:
+    if found.is_known(finding):
         reason = found.reason_of(finding)
         result["suppressions"] = [dict({"kind": "external", "status": "accepted"}, **({"justification": sarif_text(reason)} if reason else {}))]
     add_steps(result, finding, found.sources)
@@ -159,7 +160,7 @@ def stacks_of(thread: Stood, happened: Happened) -> list[dict]:
 
 def frame_location(frame: Frame) -> dict:
     found: dict = {"message": {"text": sarif_text(frame.words)}}
-    if frame.path:
+    if frame.path and not frame.is_wrapper:
         found["physicalLocation"] = {"artifactLocation": artifact(frame.path), "region": {"startLine": frame.line}}
     if frame.function:
         found["logicalLocations"] = [{"name": visible(frame.function), "kind": "function"}]

@@ -41,8 +41,7 @@ def say_what_was_seen(folder: str, summary: Summary, ended: int | None = None, i
         return NOTHING
     is_seen = summary.operations() and not has_only_signals(summary) and (is_all_own or whose_locks(folder, summary) == "some")
     if not is_seen and not has_handlers(folder):
-        say_nothing_seen(summary, reasons, ended)
-        return NOTHING
+        return ALL if say_idle_handlers(folder, summary) else say_nothing_seen(summary, reasons, ended)
     if summary.number("refused-processes"):
         say("a program wasn't reached, %sit:" % SAYS_NOTHING)
         say_reasons(summary, ["no-file"])
@@ -184,6 +183,23 @@ def has_handlers(folder: str) -> bool:
     return bool(Signals(folder).ran)
 
 
+def idle_handlers(folder: str, summary: Summary) -> int:
+    """How many signal handlers ran and took nothing, in a program that takes no locks by itself. 0 if another handler is installed, of which nothing is
+    known, or if locks may have been missed."""
+    from ..ask.signals import Signals
+    idle = [count for count in summary.counts if count.code.startswith("signal ") and " takes 0 " in count.code]
+    is_all = set(summary.reasons()) <= {"no-pthread-import"} and not others(summary) and not summary.left_out() and not summary.number("semaphore-files")
+    return len(idle) if idle and is_all and not Signals(folder).never else 0
+
+
+def say_idle_handlers(folder: str, summary: Summary) -> bool:
+    """Says that no signal finds a lock held, if that is so. Whether it is."""
+    idle = idle_handlers(folder, summary)
+    if idle:
+        say("%s ran, and took nothing; the program takes no lock by itself" % counted(idle, "signal handler"))
+    return idle > 0
+
+
 def say_handlers(folder: str) -> None:
     """Which signal handlers never ran, and which signals were sent to single threads alone."""
     if os.path.lexists(os.path.join(folder, SIGNALS_FOLDER)):
@@ -218,7 +234,8 @@ def others(summary: Summary) -> int:
     return sum(summary.number(code) for code in OTHERS)
 
 
-def say_nothing_seen(summary: Summary, reasons: list[str], ended: int | None) -> None:
+def say_nothing_seen(summary: Summary, reasons: list[str], ended: int | None) -> int:
+    """Says that, and why. The result is NOTHING."""
     is_by_itself = "embed-off" in reasons or "embed-empty" in reasons  # nothing is loaded into such a program
     if not summary.number("processes") and not is_by_itself:
         say("no process was recorded: the recorder wasn't loaded into any")
@@ -229,7 +246,7 @@ def say_nothing_seen(summary: Summary, reasons: list[str], ended: int | None) ->
     is_told = others(summary) + summary.number("unreached-runs") > 0
     if is_told and reasons in ([], ["no-pthread-import"]):
         say("no lock of the program's own was seen, %sit, for that reason" % SAYS_NOTHING)
-        return
+        return NOTHING
     say("no lock of the program's own was seen, %sit. Likely reasons:" % SAYS_NOTHING)
     say_reasons(summary, reasons)
     if not reasons:
@@ -237,6 +254,7 @@ def say_nothing_seen(summary: Summary, reasons: list[str], ended: int | None) ->
         say("  none is known: it took no lock%s, or its locks are not those of pthreads" % before)
     if reasons in ([], ["no-pthread-import"]):
         say("record what takes locks, as a test of the program or a server under load, and not what builds it")
+    return NOTHING
 
 
 SEMAPHORES = "the semaphores of %s weren't looked at: with LOCKDEP_ALSO=sem in the environment they are recorded as mutexes"

@@ -132,8 +132,12 @@ def remarks_of_signal(finding: Finding, handler: Handler) -> list[str]:
     """To whom the signal comes, whether it has to come in a narrow moment, and what mends the finding."""
     signal = finding.state
     to = "single threads alone: only these, and threads that run the same function, count" if handler.sent_to == THREADS else \
-        "the process: any thread may get it"
+        "the process: any thread that has it unblocked may get it"
+    to += ", where a timer is armed that sends it" if handler.is_by_timers else ""
     remarks = [IN_MAIN_THREAD % signal if handler.is_in_one_thread else "%s was sent to %s" % (signal, to)]
+    if handler.opened_by:
+        remarks.append("%s counts as unblocked where %s may come in, whose handler unblocks it: to block it alone isn't enough there" % (
+            signal, " or ".join(handler.opened_by)))
     if finding.is_narrow:
         remarks.append("in a narrow moment: %s knows its owner, so the handler waits only if %s comes in %s" % (
             plain_key(finding.keys[0]), signal, NARROW.format("owner")))

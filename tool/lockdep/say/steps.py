@@ -83,7 +83,7 @@ def events_of(steps: list[Step]) -> list[Event]:
 
 
 def task_words(finding: Finding, shown: Shown = str) -> list[str]:
-    """What each task of the walk holds and waits for."""
+    """What each task of a cycle, or of an inversion, holds and waits for."""
     first = 1 if finding.type == "circle" else 2
     return ["%s holds %s%s waits for %s" % (task_name(finding, place), shown(order.start), ORDER_BY % order.signal if order.signal else " and",
                                             awaited(order.end, shown)) for place, order in enumerate(finding.orders, first)]
@@ -94,37 +94,3 @@ def task_name(finding: Finding, number: int) -> str:
     if not finding.handler:
         return "task %d" % number
     return "the handler" if number == 2 + len(finding.orders) else "thread %d" % number
-
-
-def sentence(finding: Finding, shown: Shown = str) -> str:
-    """What happens, in a sentence."""
-    if not steps_of(finding):
-        return "The records of this finding aren't given."
-    parts = task_words(finding, shown)
-    if finding.type == "circle":
-        return circle_sentence(parts)
-    if finding.handler:
-        return signal_sentence(finding, parts, shown)
-    held = "Task 1 holds %s with %ss on" % (shown(finding.keys[-1]), finding.irq)
-    comes = "a %s comes in at task 1 and waits for %s" % (finding.irq, shown(finding.keys[0]))
-    if finding.type == "double":
-        return "%s, and %s, which is given back only when the %s has ended." % (held, comes, finding.irq)
-    return "%s, %s, and %s, so none of them goes on." % (held, ", ".join(parts), comes)
-
-
-def signal_sentence(finding: Finding, parts: list[str], shown: Shown) -> str:
-    """The sentence of a finding with a signal, made of those of its threads."""
-    parts = ["thread 1 holds %s with %s unblocked" % (shown(finding.keys[-1]), finding.state)] + parts
-    end = "which is given back only when the handler has ended" if finding.type == "double" else "so none of them goes on"
-    return "T%s, and %s comes in at thread 1, whose handler waits for %s, %s." % (", ".join(parts)[1:], finding.state, shown(finding.keys[0]), end)
-
-
-def circle_sentence(parts: list[str]) -> str:
-    """The sentence of a cycle, made of those of its tasks."""
-    if not parts:
-        return "The records of this finding aren't given."
-    if len(parts) == 1:
-        return "T%s: for ever if it is the same lock; and if they are two locks of one class, another task may take " \
-            "them the other way round." % parts[0][1:]
-    end = "neither of them goes on" if len(parts) == 2 else "none of them goes on"
-    return "T%s, and %s, so %s." % (", ".join(parts[:-1])[1:], parts[-1], end)

@@ -4,11 +4,13 @@ from __future__ import annotations
 import os
 from typing import IO
 
-from ..base.words import CALLED_FROM
+from ..base.words import CALLED_FROM, visible
 from .lines import INDENT
 
 WIDTH = 120  # lines longer than this are broken where they have a space, also on a terminal that doesn't say how wide it is
 LEAST_WIDTH = 40  # on a narrower terminal lines are as long as this
+ALWAYS, NEVER = "always", "never"  # when a stream gets colours
+STRONG = "\x1b[1m%s\x1b[0m"  # words that stand out, as terminals have them
 
 
 def width_of(stream: IO[str] | None) -> int:
@@ -50,18 +52,30 @@ def note_lines(text: str, indent: int, width: int) -> list[str]:
     return [" " * indent + callers[0]] + [" " * (indent + INDENT - 1) + CALLED_FROM + caller for caller in callers[1:]]
 
 
-class Writer:
-    """Writes lines, and notes under them."""
+def is_coloured(stream: IO[str] | None, when: str = "") -> bool:
+    """Whether a stream gets colours: always, never, or else if it is a terminal that has some, and nobody set NO_COLOR."""
+    if when in (ALWAYS, NEVER):
+        return when == ALWAYS
+    return bool(width_of(stream)) and not os.environ.get("NO_COLOR") and os.environ.get("TERM", "dumb") != "dumb"
 
-    def __init__(self, stream: IO[str], width: int | None = None) -> None:
+
+class Writer:
+    """Writes lines, and notes under them. The first line of a text may have strong words, which stand out on a terminal with colours."""
+
+    def __init__(self, stream: IO[str], width: int | None = None, has_colours: bool | None = None) -> None:
         self.stream = stream
         self.width = width if width is not None else width_of(stream)
+        self.has_colours = is_coloured(stream) if has_colours is None else has_colours
 
-    def line(self, text: str, notes: list[str] | tuple[str, ...] = ()) -> None:
-        bare = text.lstrip(" ")
-        indent = len(text) - len(bare)
-        lines = broken(bare, indent, self.width) if self.width else [text]
-        for note in notes:
+    def line(self, text: str, notes: list[str] | tuple[str, ...] = (), strong: str = "") -> None:
+        bare = visible(text.lstrip(" "))
+        indent = len(text) - len(text.lstrip(" "))
+        lines = broken(bare, indent, self.width) if self.width else [" " * indent + bare]
+        if self.has_colours and strong and strong == text:
+            lines = [STRONG % line for line in lines]
+        elif self.has_colours and strong:
+            lines[0] = lines[0].replace(visible(strong), STRONG % visible(strong), 1)
+        for note in map(visible, notes):
             place = indent + INDENT
             lines += note_lines(note, place, self.width) if self.width else [" " * place + note]
         self.stream.write("".join(line + "\n" for line in lines))

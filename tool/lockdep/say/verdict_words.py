@@ -5,7 +5,7 @@ from ..ask.verdict import WITH_DEPTH, Recorded, gate_of_all, type_of_key
 from ..base.words import name_in, plain_key, stands_for_several
 from ..program.findings import Finding, Gate
 from ..program.schedules import Ring
-from ..program.verdicts import OF_LEVELS, Judgement, Level, Reason, Verdict
+from ..program.verdicts import BY_LEVELS, Judgement, Level, Reason, Verdict
 from .kernel_words import words_of_kernel
 
 UNDER_ITSELF = "; but a lock is taken under itself there"
@@ -15,7 +15,6 @@ ONLY = {  # what follows, of a cycle, and of others
     Level.TYPES: (", not between classes",) * 2,
     Level.NESTED: (", as one type nested in itself: a note, and no finding",) * 2,
 }
-HAPPENED = "happened in run %d of `lockdep provoke`"
 TOO_MANY = "more than 256 keys lead to one another"
 SEVERAL = "%s is several locks"
 STOOD = "its threads stood still so when the process ended"
@@ -30,6 +29,7 @@ REASONS = {
     Reason.NO_RING: NO_WAITS + "what else they hold, or that they read, keeps them from it",
     Reason.TIMED: "only by waits with a time limit",
     Reason.LATE: "only by a signal that comes after its thread took its last lock",
+    Reason.TURNED_OFF: "possible by locks; %s",
 }
 
 
@@ -52,29 +52,46 @@ def locks_words(finding: Finding, inner: Finding, recorded: Recorded) -> str:
     if inner.type != "circle":
         return words
     if len(keys) == 1 and not stands_for_several(name_in(keys[0])):
-        return "%s under itself%s" % (words, recorded.who_words(inner))
+        return "%s under itself%s" % (words, recorded.who_words(finding, inner))
     gate = gate_of_all(inner)
-    return words + (", under " + plain_key(gate.key) if gate else recorded.who_words(inner))
+    return words + (", under " + plain_key(gate.key) if gate else recorded.who_words(finding, inner))
 
 
 def verdict_of(finding: Finding, recorded: Recorded) -> str:
     """The verdict of a finding, in a line: that it happened comes first. Empty if nothing was asked."""
-    words = [HAPPENED % finding.happened.run] if finding.happened else []
+    words = [finding.happened.words] if finding.happened else []
     judged = judged_words(finding, recorded)
     return "; ".join(words + ([judged] if judged else []))
 
 
 def judged_words(finding: Finding, recorded: Recorded) -> str:
-    """What a finding was judged to be; empty if nothing was asked, or if the traces are of a kernel, whose names tell no single locks apart."""
-    between, judgement = finding.between, finding.judged or (finding.between and Judgement(OF_LEVELS[finding.between.level]))
+    """What a finding was judged to be, with its locks; empty if nothing was asked, or if the traces are of a kernel, whose names tell no single locks apart."""
+    between = finding.between
     if not between or recorded.is_kernels():
         return ""
-    if between.level in ONLY:
-        words = LEVELS[between.level] + ONLY[between.level][finding.type != "circle"]
-    else:
-        words = judgement.verdict.words + ": " + ": ".join(details_of(finding, between.finding, judgement, recorded))
+    judgement = judgement_of(finding)
+    words = words_of_level(finding) if between.level in ONLY else judgement.verdict.words + ": " + ": ".join(details_of(finding, between.finding, judgement, recorded))
     depth = recorded.depths.get(finding.number)
     return words + (", and not if places are %d callers deep" % depth if depth and between.level in WITH_DEPTH else "")
+
+
+def verdict_and_why(finding: Finding, recorded: Recorded) -> tuple[str, str]:
+    """The verdict in a word or two, and why it is that; both empty if nothing was asked."""
+    if not finding.between:
+        return "", ""
+    if finding.level in ONLY:
+        return words_of_level(finding), ""
+    judgement = judgement_of(finding)
+    return judgement.verdict.words, why_words(finding, finding.between.finding, judgement, recorded)
+
+
+def judgement_of(finding: Finding) -> Judgement:
+    return finding.judged or BY_LEVELS[finding.between.level]
+
+
+def words_of_level(finding: Finding) -> str:
+    """The verdict of what was seen only between classes, or types."""
+    return LEVELS[finding.level] + ONLY[finding.level][finding.type != "circle"]
 
 
 def details_of(finding: Finding, inner: Finding | None, judgement: Judgement, recorded: Recorded) -> list[str]:
@@ -100,13 +117,15 @@ def why_words(finding: Finding, inner: Finding | None, judgement: Judgement, rec
     if judgement.verdict is Verdict.APART:
         return "starts, joins and messages keep these steps apart in this recording"
     several = several_words(finding, inner) if finding.level is Level.PERHAPS and inner else ""
+    if judgement.reason is Reason.TURNED_OFF:
+        return REASONS[judgement.reason] % judgement.why
     if judgement.reason:
         return NO_WAITS + several if several and judgement.reason is Reason.NO_RING else REASONS[judgement.reason]
     if several:
         return several
     if finding.level is Level.UNKNOWN:
         return judgement.why or finding.between.reason or TOO_MANY
-    return judgement.why or recorded.steps_words(inner)
+    return judgement.why or recorded.steps_words(finding, inner)
 
 
 def several_words(finding: Finding, inner: Finding) -> str:
