@@ -17,7 +17,7 @@ import time
 NAMES = ("chromium", "chromium-browser", "google-chrome")
 WIDTHS, SCHEMES = (360, 1400), ("light", "dark")
 HEIGHT = 900
-PATIENCE = 60  # seconds that one call may take
+PATIENCE = 600  # seconds that one call may take
 
 
 def browser_there():

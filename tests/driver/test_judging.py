@@ -13,7 +13,7 @@ from lockdep.ask.lives import lives_in
 from lockdep.ask.scheduled import Scheduled, asked_about, locks_of, orders_of, scheduled_in
 from lockdep.ask.verdict import Recorded
 from lockdep.program.checker import Answer
-from lockdep.program.findings import Event, Held
+from lockdep.program.findings import Event, Finding, Held
 from lockdep.program.schedules import APART, NOT_KNOWN, NOT_SHOWN, POSSIBLE, Forced, History, Place, Ring, Waiting
 from lockdep.program.verdicts import Reason, Verdict
 from lockdep.record.folder import FIRST_LINE
@@ -158,11 +158,21 @@ class Judged(OfARecording):
 
     def test_histories_that_dont_say_all_show_only_what_is_possible(self) -> None:
         for about, why in ((dict(why=scheduled.ENDED), scheduled.ENDED), (dict(left_out={"b": "not-held"}), judging.LEFT_OUT),
-                           (dict(left_out={"b": "absent"}), judging.ABSENT), (dict(left_out={"a": "absent", "b": "not-held"}), judging.LEFT_OUT)):
+                           (dict(left_out={"b": "absent"}), judging.ABSENT % ""),
+                           (dict(left_out={"b": "absent"}, absent="no semaphores"), judging.ABSENT % ", which has no semaphores"),
+                           (dict(left_out={"b": "broken-off"}), judging.BROKEN_OFF), (dict(left_out={"a": "absent", "b": "broken-off"}), judging.BROKEN_OFF),
+                           (dict(left_out={"a": "absent", "b": "not-held"}), judging.LEFT_OUT)):
             self.assertEqual(self.one(ring(POSSIBLE, "a#1", "b#2"), **about), (Verdict.POSSIBLE, None, ""))
             for verdict in (NOT_KNOWN, NOT_SHOWN, APART):
                 self.assertEqual(self.one(ring(verdict, "a#1", "b#2"), **about), (Verdict.NOT_KNOWN, None, why))
             self.assertEqual(self.one(said=self.cycle(tasks=(1, 1)), **about), (Verdict.NOT_KNOWN, None, why))
+
+    def test_traces_that_were_not_made_with_the_histories(self) -> None:
+        for traces, wanted in ((("task-0001.csv", "task-0002.csv", "classes"), (Verdict.APART, None, "")),
+                               (("task-0001.csv",), (Verdict.NOT_KNOWN, None, judging.INSIDE))):
+            said = circle_by((1, 2), "a#1/0", "b#2/0", folder=self.path("objects"))
+            said["between"] = between("locks", circle_by((1, 2), "a#1/0", "b#2/0", folder=self.path("objects")))
+            self.assertEqual(self.one(ring(APART, "a#1", "b#2"), said=said, traces=frozenset(traces)), wanted)
 
     def test_a_ring_inside_a_lock_that_the_history_lacks(self) -> None:
         for absent, verdict in (({"g": "absent"}, (Verdict.NOT_SHOWN, Reason.ONE_LOCK, "")), ({"g": "not-held"}, (Verdict.POSSIBLE, None, "")),
@@ -190,6 +200,11 @@ class Judged(OfARecording):
 
     def test_without_a_ring_nothing_is_known(self) -> None:
         self.assertEqual(self.one(), (Verdict.NOT_KNOWN, None, judging.NO_RING))
+
+    def test_no_finding_is_compared_with_all_others(self) -> None:
+        with mock.patch.object(Finding, "__eq__", side_effect=AssertionError):
+            said = self.judged([self.cycle(), self.cycle(), self.cycle("classes")])
+        self.assertEqual(said, [(Verdict.NOT_KNOWN, None, judging.NO_RING)] * 2 + [None])
 
     def test_one_lock_round_all_orders(self) -> None:
         under = self.cycle(gates=gated("a#1/0", "b#2/0"))
@@ -237,7 +252,7 @@ class Judged(OfARecording):
 
     def test_waits_with_a_limit(self) -> None:
         with self.marked("timed", "circle a/0 EN b/0", "circle b/0 EN a/0"):
-            for about in (dict(), dict(why=scheduled.WITHOUT), dict(why=scheduled.OF_ANOTHER % "Python")):
+            for about in (dict(), dict(why=scheduled.WITHOUT), dict(why=scheduled.OF_ANOTHER % "lockdep_record.h")):
                 self.assertEqual(self.one(**about), (Verdict.NOT_SHOWN, Reason.TIMED, ""))
             self.assertEqual(self.one(ring(POSSIBLE, "a#1", "b#2"))[0], Verdict.POSSIBLE)
             self.assertEqual(self.one(ring(APART, "a#1", "b#2"))[0], Verdict.APART)
@@ -328,10 +343,16 @@ class OfHistories(OfARecording):
         self.assertEqual(locks_of([history], self.folder), {Event("h/process-0001.csv", record): lock for record, lock in ((2, "m"), (6, "m,n"), (9, ""))})
 
     def test_other_recordings_have_none(self) -> None:
-        self.write("RECORDED", FIRST_LINE + "\n")
-        for recorder, why in (("python", scheduled.OF_ANOTHER % "Python"), ("pthread", scheduled.GONE)):
+        for recorder, listed, why in (("embed", "", scheduled.OF_ANOTHER % "lockdep_record.h"), ("pthread", "", scheduled.GONE),
+                                      ("python", "", scheduled.WITHOUT), ("java", "raw.tar.gz\n", scheduled.GONE)):
+            self.write("RECORDED", FIRST_LINE + "\n" + listed)
             self.write("summary.json", '{"recording":1,"recorder":"%s","counts":[],"unseen":[]}' % recorder)
             self.assertEqual(scheduled_in(self.folder), Scheduled(why=why))
+
+    def test_a_python_without_its_global_lock(self) -> None:
+        self.write("summary.json", '{"recording":1,"recorder":"python","counts":[{"code":"unguarded","count":1}],"unseen":[]}')
+        with mock.patch.object(scheduled, "write_histories", return_value=self.folder):
+            self.assertEqual(scheduled_in(self.folder).why, scheduled.UNGUARDED)
 
     def test_a_recording_without_the_order_of_its_steps(self) -> None:
         with mock.patch.object(scheduled, "write_histories", return_value="made"):

@@ -2,6 +2,7 @@
 from __future__ import annotations
 
 import ast
+import builtins
 import importlib
 import os
 import unittest
@@ -66,6 +67,22 @@ class Packages(unittest.TestCase):
 
     def test_no_modules_know_each_other(self) -> None:
         self.assertEqual(cycle_in(self.knows), [])
+
+    def test_each_name_is_defined_or_imported(self) -> None:
+        self.assertEqual([(file, name) for file in sorted(modules().values()) for name in sorted(undefined_in(file))], [])
+
+
+def undefined_in(file: str) -> set[str]:
+    """The names that a module uses and neither defines nor imports anywhere."""
+    with open(file, encoding="utf-8") as opened:
+        nodes = list(ast.walk(ast.parse(opened.read())))
+    defined = {*dir(builtins), "__file__", "__name__"}
+    defined.update((alias.asname or alias.name).partition(".")[0] for node in nodes if isinstance(node, (ast.Import, ast.ImportFrom)) for alias in node.names)
+    defined.update(node.name for node in nodes if isinstance(node, (ast.FunctionDef, ast.AsyncFunctionDef, ast.ClassDef, ast.ExceptHandler)) and node.name)
+    defined.update(node.arg for node in nodes if isinstance(node, ast.arg))
+    names = [node for node in nodes if isinstance(node, ast.Name)]
+    defined.update(node.id for node in names if not isinstance(node.ctx, ast.Load))
+    return {node.id for node in names} - defined
 
 
 def cycle_in(knows: dict[tuple[str, ...], set[tuple[str, ...]]]) -> list[tuple[str, ...]]:

@@ -12,7 +12,7 @@ from lockdep.record.recording import is_history_size
 
 # A program in the place of `finish`: it makes what it is asked to, and notes with which words it was called.
 FINISH = """#!/bin/sh
-echo "$# $2 $3 $4" >"$CALLED"
+echo "$# $2 $3" >"$CALLED"
 printf '{"recording":1,"recorder":"pthread","counts":[\\n{"code":"processes","count":1},\\n{"code":"history-ends","count":1}\\n],"unseen":[]}\\n' >"$1/summary.json"
 [ -z "$MADE" ] || echo history,1 >"$1/history/process-0001.csv"
 exit "${ENDS:-0}"
@@ -44,7 +44,7 @@ class Histories(unittest.TestCase):
         self.assertEqual(self.made(MADE="yes"), [path])
         self.assertEqual(histories.histories_in(self.folder), [path])
         with open(self.called, encoding="utf-8") as file:
-            self.assertEqual(file.read(), "4 2 4 history\n")
+            self.assertEqual(file.read(), "3 4 history\n")
 
     def test_what_they_lack_goes_into_the_summary_once(self):
         for _ in range(2):

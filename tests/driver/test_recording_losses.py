@@ -102,7 +102,8 @@ class LeftOut(unittest.TestCase):
         with open(os.path.join(self.folder, "classes"), "w", encoding="utf-8") as file:
             file.write("a\t/srv/server\t0\tstatic\n")
 
-    acceptable = sorted(set(losses.COUNTS) - set(losses.UNLOST) - {"refused-processes"})
+    # A count of these two alone leaves nothing out. Written here, so that a count that is left out by mistake is noticed.
+    acceptable = sorted(set(losses.COUNTS) - {"small-files", "refused-processes"})
 
     def judged(self, code, *accepted):
         """The status of a recording that lacks something, and what is said."""

@@ -138,7 +138,7 @@ class NewRecorder(unittest.TestCase):
                               check=True)
         self.assertEqual(done.stdout, b"toy\n")
         subprocess.run([os.path.join(self.home, "tool", "texts", "write")], check=True)
-        with open(os.path.join(self.home, "tool", "help", "run"), encoding="utf-8") as file:
+        with open(os.path.join(self.home, "tool", "help", "run-all"), encoding="utf-8") as file:
             self.assertIn("toy for those of Toy", file.read())
         with open(os.path.join(self.home, "tool", "completions", "lockdep.bash"), encoding="utf-8") as file:
             self.assertIn("pthread toy python java rust go embed", file.read())

@@ -4,13 +4,17 @@ import shutil
 import stat
 import sys
 import tempfile
+import time
 import unittest
+from unittest import mock
 
+from lockdep import parts
 from lockdep.base.command_line import Help
 from lockdep.base.nearest import nearest
 from lockdep.base.saying import Refusal
 from lockdep.binaries import loading
-from lockdep.cli.options import COMMANDS, parse
+from lockdep.cli import refusal
+from lockdep.cli.options import COMMANDS, CONFIRM, parse
 from lockdep.record import recorders
 
 
@@ -27,6 +31,50 @@ class CommandLines(unittest.TestCase):
                       ["--signals", "some"], ["--signals="], ["--history", "0"], ["--history", "1025"], ["--history", "064"], ["--history", "64MB"], ["--history=On"], ["--known", "-"], ["--write-known", "-"], ["--accept-left-out", "threads"], ["--error-exitcode", "256"], ["--known="]):
             self.assertRaises(Refusal, parse, COMMANDS["run"], words)
 
+    def test_other_spellings_of_an_option(self):
+        for command, words in (("run", ["--output", "x", "-q", "-v", "--suppressions=y"]), ("gather", ["--output=x", "--suppressions", "y", "z"]),
+                               ("record", ["--output", "x"]), ("provoke", ["--output", "x"])):
+            values = parse(COMMANDS[command], words).values
+            self.assertEqual(values.pop("-o"), ["x"], command)
+            self.assertEqual(values, {"run": {"--quiet": ["yes"], "--verbose": ["yes"], "--known": ["y"]}, "gather": {"--known": ["y"]}}.get(command, {}))
+        self.assertTrue(parse(CONFIRM, ["-v", "x"]).has("--verbose"))
+        self.assertEqual(parse(COMMANDS["run"], ["-o", "x", "--output", "y", "./a"]).last("-o"), "y")
+
+    def test_only_processor_time_ends_the_look_at_a_trace(self):
+        def waits(*_):
+            time.sleep(1.5)
+            return {"fact": 1}
+
+        def computes(*_):
+            while True:
+                pass
+
+        for look, wanted in ((waits, {"fact": 1}), (computes, {})):
+            with mock.patch.multiple(refusal, PATIENCE=1, content=lambda *_: (b"", True), facts_of=look):
+                self.assertEqual(refusal.look_at_trace("trace", [], "", 1), wanted)
+
+    def test_a_refusal_has_the_spelling_that_was_typed(self):
+        for words, refused in ((["--output"], "--output takes a folder; "), (["--suppressions", "-"], "--suppressions takes a file, and not `-`; "),
+                               (["--suppresions", "x"], "`run` has no option `--suppresions`; did you mean `--suppressions`? "),
+                               (["--out=x"], "`run` has no option `--out=x`; did you mean `--output`? "),
+                               (["--quite\n"], "`run` has no option `--quite\\n`; did you mean `--quiet`? ")):
+            with self.assertRaises(Refusal) as caught:
+                parse(COMMANDS["run"], words)
+            self.assertTrue(str(caught.exception).startswith(refused), str(caught.exception))
+
+    def test_an_option_that_another_command_does_not_have(self):
+        for part, wrong, near in (("confirm", "--verbsoe", "--verbose"), ("view", "--sarfi", "--sarif"), ("report", "--hepl", "--help"),
+                                  ("where", "--hepl", "--help"), ("diff", "--hepl", "--help"), ("schedule", "--jsno", "--json")):
+            with self.assertRaises(Refusal) as caught:
+                parts.main_of(part)([wrong])
+            self.assertIn("`%s` has no option `%s`; did you mean `%s`? `lockdep %s --help` lists them" % (part, wrong, near, part), caught.exception.line)
+
+    def test_an_earlier_spelling_is_taken_and_not_shown(self):
+        for command in (CONFIRM, COMMANDS["gather"]):
+            self.assertTrue(parse(command, ["--strict"]).has("--confirmed-only"), command.name)
+            self.assertNotIn("--strict", command.shown)
+        self.assertRaises(Refusal, parse, COMMANDS["run"], ["--strict", "./a"])
+
     def test_how_much_history_is_kept(self):
         for size in ("off", "1", "64", "1024"):
             self.assertEqual(parse(COMMANDS["record"], ["--history", size, "./a"]).last("--history"), size)
@@ -35,7 +83,11 @@ class CommandLines(unittest.TestCase):
         self.assertEqual(parse(COMMANDS["run"], ["--json", "-", "./a"]).values, {"--json": ["-"]})
 
     def test_help(self):
-        self.assertRaises(Help, parse, COMMANDS["run"], ["--quiet", "-h"])
+        for word, is_all in (("-h", False), ("--help", False), ("--help=all", True)):
+            with self.assertRaises(Help) as caught:
+                parse(COMMANDS["run"], ["--quiet", word])
+            self.assertEqual(caught.exception.is_all, is_all)
+        self.assertRaises(Refusal, parse, COMMANDS["run"], ["--help=some"])
 
     def test_what_may_be_left_out_can_be_named_several_times(self):
         line = parse(COMMANDS["run"], ["--accept-left-out", "tries", "--accept-left-out=no-room"])

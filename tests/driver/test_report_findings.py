@@ -8,15 +8,17 @@ from cases import between, circle, finding, findings, order, sightings
 from lockdep.ask.timed import gone_without, marked_in, with_tries
 from lockdep.ask.verdict import Recorded, by_importance
 from lockdep.base.saying import Refusal
+from lockdep.base.words import as_sentence
 from lockdep.known.known import Sorted
 from lockdep.places.sources import Sources
 from lockdep.program.findings import Event, findings_of
 from lockdep.program.verdicts import Judgement, Level, Reason, Verdict
 from lockdep.record.summary import Summary, parse
-from lockdep.record.threads import called
+from lockdep.record.threads import called, of_recording
 from lockdep.say.explanation import thread_of
 from lockdep.say.groups import groups_of
-from lockdep.say.report import Recording, Report, ReportOptions
+from lockdep.say.report import NOT_JUDGED, Recording, Report, ReportOptions
+from lockdep.say.sentences import Names, rows_of
 from lockdep.say.steps import task_words
 from lockdep.say.terminal import Writer
 from lockdep.say.text import Text
@@ -56,6 +58,22 @@ class NamesOfThreads(unittest.TestCase):
         self.assertEqual(thread_of(Event("other.csv", 2)), "")
         self.assertEqual(thread_of(None), "")
 
+    def test_one_of_another_recording_is_told_apart(self):
+        events = [Event("x/m1/objects/task-0001.csv", 2), Event("y/m2/task-0001.csv", 2), Event("y/m2/task-0002.csv", 2)]
+        self.assertEqual([thread_of(event, [each.file for each in events]) for event in events], [" (task-0001 of m1)", " (task-0001 of m2)", " (task-0002)"])
+        alike = [Event("x/m/objects/task-0001.csv", 2), Event("y/m/objects/task-0001.csv", 4)]
+        self.assertEqual([thread_of(event, [each.file for each in alike]) for event in alike], [" (task-0001 of x/m)", " (task-0001 of y/m)"])
+        for one, other in (("m/objects/task-0001.csv", "m/task-0001.csv"), ("m/task-0001.csv", "m/signals/1/task-0001.csv")):
+            self.assertEqual(of_recording(one, [one, other]), "")
+        self.assertEqual(of_recording("task-0001.csv", ["task-0001.csv", "m/task-0001.csv"]), " of .")
+        said = finding(dict(circle("a/0", "b/0"), orders=[order("a/0", "EN", "b/0", "x/m1/task-0001.csv"), order("b/0", "EN", "a/0", "x/m2/task-0001.csv")]))
+        self.assertEqual([row[3] for row in rows_of(said, Sources(), Names([said], Sources()))], ["thread 1 of m1", "thread 1 of m2"])
+
+    def test_a_sentence_keeps_a_locks_name(self):
+        for remark, sentence in (("d/0 EN e/0: in 2 recordings: x", "d/0 EN e/0: in 2 recordings: x."), ("not known: d", "Not known: d."),
+                                 ("task-0002 takes b", "Task-0002 takes b."), ("it isn't.", "It isn't."), ("std::m/0 used in hardirq", "std::m/0 used in hardirq.")):
+            self.assertEqual(as_sentence(remark), sentence)
+
 
 class Reading(unittest.TestCase):
     def test_a_finding_has_its_head_and_its_records(self):
@@ -93,6 +111,23 @@ class Reading(unittest.TestCase):
             for one, judgement in zip(report.sorted.new, judged):
                 one.judged = judgement
             self.assertEqual(report.status, status, judged)
+
+
+class Hung(unittest.TestCase):
+    """The status of a run at whose end a thread waited for a lock."""
+
+    HUNG = "waiting 1\n  task-0001 waits for m\nat-exit 0\n"
+
+    def status(self, summary, lost, **options):
+        report = Report(Recording("", Summary(parse(summary)), lost, status=0), ReportOptions(**options), None)
+        report.sorted = Sorted([])
+        return report.status
+
+    def test_a_hang_with_something_left_out_is_not_judged(self):
+        self.assertEqual(self.status(self.HUNG, "3 tries"), NOT_JUDGED)
+        self.assertEqual(self.status(self.HUNG, ""), 0)
+        self.assertEqual(self.status(self.HUNG, "3 tries", error_exitcode=9), 9)
+        self.assertEqual(self.status("waiting 1\n  task-0001 waits for m\nat-exit 1\n", "", error_exitcode=9), 0)
 
 
 def rank_of(judgement):
@@ -278,7 +313,7 @@ class Shown(unittest.TestCase):
 
     def shown(self, said, most=None):
         stream = io.StringIO()
-        text = Text(Writer(stream, 0), Sources(), Recorded([]))
+        text = Text(Writer(stream, 0), Sources(), Recorded([]), findings(said), is_verbose=True)
         return text.groups(groups_of(findings(said)), most), stream.getvalue()
 
     def test_the_first_of_a_group_is_whole_and_the_others_are_one_line(self):

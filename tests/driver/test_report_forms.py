@@ -12,14 +12,17 @@ from lockdep.ask.breaches import Breach
 from lockdep.ask.verdict import Recorded
 from lockdep.base import files
 from lockdep.base.saying import Refusal
-from lockdep.binaries.symbols import Address
+from lockdep.binaries.symbols import Address, frame_of
 from lockdep.cli import diff
 from lockdep.cli.diff import Side
-from lockdep.places.places import Made
+from lockdep.places.places import Made, Places
 from lockdep.places.sources import Sources
-from lockdep.say.as_json import json_of_run, with_places
+from lockdep.program.findings import Event, Finding
+from lockdep.say import found as forms
+from lockdep.say.as_json import compact, json_of_run, with_places
 from lockdep.say.found import Found
 from lockdep.say.junit import junit
+from lockdep.say.sarif import frame_location, location
 
 
 def status_of(call, **more):
@@ -43,13 +46,27 @@ class Output(unittest.TestCase):
             self.assertEqual(raised.exception.status, 2)
 
     def test_a_reader_of_diff_that_has_enough_needs_no_message(self):
-        call = "from unittest import mock; from lockdep.cli import diff; diff.sides_of = lambda name: [diff.Side('head', frozenset())] * 9999; " \
-            "sys.exit(diff.main(['one', 'two']))"
+        call = "from lockdep import parts; from lockdep.cli import diff; diff.sides_of = lambda name: [diff.Side('head', frozenset())] * 9999; " \
+            "sys.exit(parts.run('diff', ['one', 'two']))"
         out, into = os.pipe()
         os.close(out)
         done = status_of(call, stdout=into)
         os.close(into)
         self.assertEqual((done.returncode, done.stderr), (2, b""))
+
+
+class InSarif(unittest.TestCase):
+    def test_no_place_is_in_a_header_of_the_system(self):
+        """Where nothing but such functions is known, the place is the record's."""
+        sources, event, address = Sources(), Event("t/task-0001.csv", 4), Address("/bin/p", 0x20)
+        sources.take_callers({event: [address]})
+        sources.take_record(event, (5, "acq,a,0,w"), Places(event.file))
+        wrapper = frame_of("std::mutex::lock()", "/usr/include/c++/12/bits/std_mutex.h:100", "p+20")
+        for frames, place in (([wrapper], ("task-0001.csv", 5)), ([wrapper, frame_of("pays()", "/src/m.cc:9", "p+20")], ("m.cc", 9))):
+            sources.symbols.answers[address.module, address.looked_up] = frames
+            physical = location(event, "takes a", sources)["physicalLocation"]
+            self.assertEqual((os.path.basename(physical["artifactLocation"]["uri"]), physical["region"]["startLine"]), place)
+        self.assertNotIn("physicalLocation", frame_location(wrapper))
 
 
 class Sides(unittest.TestCase):
@@ -86,6 +103,10 @@ class Sides(unittest.TestCase):
 
 
 class Json(unittest.TestCase):
+    def test_hidden_characters_are_escaped(self):
+        for text, written in (("a\x9b\u202e\x7f\x1b", '"a\\u009b\\u202e\\u007f\\u001b"'), ("\xe9\U0001f512\udcff", '"\xe9\U0001f512\udcff"')):
+            self.assertEqual(compact(text), written)
+
     def test_an_occurrence_has_the_name_of_its_thread(self):
         with tempfile.TemporaryDirectory() as folder:
             with open(os.path.join(folder, "tasks"), "w", encoding="utf-8") as file:
@@ -99,6 +120,22 @@ class Json(unittest.TestCase):
         known, new = (Breach("hold", ("%s/0" % name,), "hold: %s wasn't held" % name, ()) for name in "ab")
         said = json.loads(json_of_run(Found([], [], Sources(), Recorded([]), [], breaches=[new], known_breaches=[known])))
         self.assertEqual([(breach["keys"], breach["known"]) for breach in said["breaches"]], [(["b/0"], False), (["a/0"], True)])
+
+
+class Once(unittest.TestCase):
+    def test_what_several_forms_say_is_made_once(self):
+        several = findings([circle("a/0", between=between("locks")), circle("c/0", between=between("locks"))])
+        found = Found(several[:1], several[1:], Sources(), Recorded([]), [])
+        with mock.patch.object(forms, "rows_of", wraps=forms.rows_of) as rows, mock.patch.object(forms, "remarks_of", wraps=forms.remarks_of) as remarks:
+            self.assertEqual(junit(found), junit(found))
+            json_of_run(found)
+        self.assertEqual((rows.call_count, remarks.call_count), (1, 2))
+
+    def test_no_finding_is_held_against_all_known_ones(self):
+        several = findings([circle("a/0", between=between("locks")), circle("c/0", between=between("locks"))])
+        with mock.patch.object(Finding, "__eq__", side_effect=AssertionError):
+            said = json.loads(json_of_run(Found(several[:1], several[1:], Sources(), Recorded([]), [])))
+        self.assertEqual([finding["known"] for finding in said["findings"]], [False, True])
 
 
 class Junit(unittest.TestCase):

@@ -2,10 +2,12 @@
 import json
 import os
 import unittest
+from unittest import mock
 
 from cases import OfARecording, between, circle, finding
-from lockdep.ask.happened import entry_of, take_happened
+from lockdep.ask.happened import entry_of, entry_of_none, take_happened, with_earlier
 from lockdep.ask.verdict import Recorded, by_importance
+from lockdep.base import saying
 from lockdep.binaries.symbols import Address
 from lockdep.known.suppressions import Entry
 from lockdep.places.sources import Sources
@@ -56,18 +58,28 @@ class WhatHappened(OfARecording):
             self.write(name, "more\n")
         self.assertEqual(len(read_provoked(self.folder)), 1)
 
-    def test_a_file_that_isnt_right_says_nothing(self):
+    def test_what_happened_once_is_not_forgotten(self):
+        happened, none = entry_of(1, self.found, Happened(2, THREADS)), entry_of_none(1, self.found, "not in 3 runs: ..", "run 1 turned off")
+        for several, counts in (([none, happened], (4, 1)), ([happened, none], (4, 1)), ([none, none], (6, 0)), ([happened, happened], (2, 2))):
+            said = []
+            for each in several:
+                said = with_earlier(each, said, 3 if each is none else 1, "again")
+            write_provoked(self.folder, said)
+            taken = self.taken("a/0", "b/0")
+            self.assertEqual((taken.attempts.runs, taken.attempts.times, bool(taken.happened)), counts + (counts[1] > 0,))
+
+    def test_a_file_that_isnt_right_says_nothing_and_is_named(self):
         with open(self.path("provoked.json")) as file:
             right = json.load(file)
         one = right["provoked"][0]
-        for wrong in (dict(one, run="x"), dict(one, threads=[{}]), dict(one, threads=[dict(one["threads"][0], waits=["server+0x"])]), dict(one, lines=3),
-                      {"lines": one["lines"]}):
-            self.write("provoked.json", json.dumps(dict(right, provoked=[wrong])))
-            self.assertIsNone(self.taken("a/0", "b/0").happened, wrong)
-        for text in ("", "{", "[]", "{}", '{"provoked": 3}', json.dumps(dict(right, provoked=7)), json.dumps(dict(right, recording="")),
-                     json.dumps({"lockdep": 1, "provoked": [one]})):
+        wrong = [json.dumps(dict(right, provoked=[each])) for each in (
+            dict(one, run="x"), dict(one, threads=[{}]), dict(one, threads=[dict(one["threads"][0], waits=["server+0x"])]), dict(one, lines=3), {"lines": one["lines"]})]
+        wrong += ["", "{", "[]", "{}", '{"provoked": 3}', json.dumps(dict(right, provoked=7)), json.dumps({"lockdep": 1, "provoked": [one]})]
+        for text in wrong + [json.dumps(dict(right, recording=""))]:
             self.write("provoked.json", text)
-            self.assertIsNone(self.taken("a/0", "b/0").happened, text)
+            with self.subTest(text), mock.patch.object(saying, "kept", []) as said:
+                self.assertIsNone(self.taken("a/0", "b/0").happened)
+                self.assertEqual(said, ["lockdep: %s is damaged, so what `provoke` did isn't known" % self.path("provoked.json")] if text in wrong else [])
 
     def test_it_is_the_first_of_all_verdicts(self):
         others = [finding(circle("c/0", "d/0", between=between("locks", circle("c#1/0", "d/0")))) for _ in list(Verdict)[1:]]

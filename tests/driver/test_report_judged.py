@@ -1,6 +1,7 @@
 """What shows a verdict: the steps of a schedule, or what keeps one from coming to its wait; in text and in each form."""
 from __future__ import annotations
 
+import dataclasses
 import json
 import os
 
@@ -69,8 +70,8 @@ class OfRings(OfARecording):
 class Text(OfRings):
     def test_a_schedule_says_who_takes_what_in_its_order_and_then_who_waits(self) -> None:
         self.assertEqual(judged_lines(self.shown(), Placed()), [
-            "first, 1 other thread goes on", "task-0002 takes b#2: run at server.c:8", "task-0001 takes a#1: run at server.c:4",
-            "task-0001 waits for b#2: run at server.c:5", "task-0002 waits for a#1 as a reader: run at server.c:9"])
+            "first, 1 other thread goes on", "thread 2 takes b#2: run at server.c:8", "thread 1 takes a#1: run at server.c:4",
+            "thread 1 waits for b#2: run at server.c:5", "thread 2 waits for a#1 as a reader: run at server.c:9"])
 
     def test_others_that_go_on_before_are_counted(self) -> None:
         for others, words in (((), []), ((3, 4), ["first, 2 other threads go on"])):
@@ -78,29 +79,29 @@ class Text(OfRings):
             self.assertEqual(judged_lines(self.shown(ring), Placed())[:-4], words)
 
     def test_a_step_without_a_caller_is_a_record(self) -> None:
-        self.assertEqual(judged_lines(self.shown(), Placed(8))[1], "task-0002 takes b#2: record 8")
+        self.assertEqual(judged_lines(self.shown(), Placed(8))[1], "thread 2 takes b#2: record 8")
 
     def test_a_thread_that_is_joined(self) -> None:
         ring = Ring(POSSIBLE, True, (waiting(1, 5, "thread:worker", ("a#1", 4)), waiting(2, 9, "a#1", ("thread:worker", 8))), (step(2, 8), step(1, 4)), ())
-        self.assertEqual(judged_lines(self.shown(ring, Verdict.BY_JOIN), Placed())[3], "task-0001 waits for the thread's end, thread:worker: run at server.c:5")
+        self.assertEqual(judged_lines(self.shown(ring, Verdict.BY_JOIN), Placed())[3], "thread 1 waits for the thread's end, thread:worker: run at server.c:5")
 
     def test_a_thread_has_its_name(self) -> None:
         self.write("tasks", "task-0001.csv 17 payer\n")
         threads.names_in.cache_clear()
-        self.assertEqual(judged_lines(self.shown(), Placed())[2], "task-0001 (payer) takes a#1: run at server.c:4")
+        self.assertEqual(judged_lines(self.shown(), Placed())[2], "thread 1 (payer) takes a#1: run at server.c:4")
 
     def test_each_word_of_what_forces_a_task(self) -> None:
         for forced, placeless, lock, line in (
-                (Forced("task-0001", "ring", at(4), None), (), "", "task-0001 has to come to run at server.c:4"),
+                (Forced("task-0001", "ring", at(4), None), (), "", "thread 1 has to come to run at server.c:4"),
                 (Forced("task-0001", "message", at(6), step(2, 7)), (), "",
-                 "task-0002 comes to run at server.c:7 only when task-0001 has passed run at server.c:6"),
-                (Forced("task-0001", "message", at(6), step(2, 7)), (7,), "", "task-0002 begins only when task-0001 has passed run at server.c:6"),
-                (Forced("task-0001", "order", at(6), step(2, 7)), (6,), "m#1", "task-0002 takes m#1 at run at server.c:7 only when task-0001 has released it"),
+                 "thread 2 comes to run at server.c:7 only when thread 1 has passed run at server.c:6"),
+                (Forced("task-0001", "message", at(6), step(2, 7)), (7,), "", "thread 2 begins only when thread 1 has passed run at server.c:6"),
+                (Forced("task-0001", "order", at(6), step(2, 7)), (6,), "m#1", "thread 2 takes m#1 at run at server.c:7 only when thread 1 has released it"),
                 (Forced("task-0001", "order", at(6), step(2, 7)), (6,), "thread:worker#1",
-                 "task-0002 goes on at run at server.c:7 only when task-0001 has ended"),
-                (Forced("task-0001", "none left", None, None), (), "", "so task-0001 is past the last place where it would wait"),
+                 "thread 2 goes on at run at server.c:7 only when thread 1 has ended"),
+                (Forced("task-0001", "none left", None, None), (), "", "so thread 1 is past the last place where it would wait"),
                 (Forced("task-0001", "never released", at(6), step(2, 7)), (), "m#1",
-                 "task-0001 never releases what it takes at run at server.c:6, and task-0002 takes it at run at server.c:7")):
+                 "thread 1 never releases what it takes at run at server.c:6, and thread 2 takes it at run at server.c:7")):
             self.assertEqual(self.forced(forced, placeless=placeless, lock=lock), [line])
 
     def test_many_steps_are_counted(self) -> None:
@@ -115,7 +116,7 @@ class Text(OfRings):
         found = self.shown()
         lines = [line.text for line in block_of(found, [], [verdict_of(found, Recorded([]))], Placed())]
         place = lines.index("  possible: a#1, b#2, by 2 threads: these recorded steps, in another order, stand still")
-        self.assertEqual(lines[place + 2], "    task-0002 takes b#2: run at server.c:8")
+        self.assertEqual(lines[place + 2], "    thread 2 takes b#2: run at server.c:8")
 
 
 class Verdicts(OfRings):
@@ -190,30 +191,40 @@ class Forms(OfRings):
         self.assertEqual((result["level"], flow["message"]["text"]), ("error", "the recorded steps in another order, in which they stand still"))
         self.assertEqual([(thread["id"], [(one["executionOrder"], one["location"]["physicalLocation"]["region"]["startLine"]) for one in thread["locations"]])
                           for thread in flow["threadFlows"]], [("task-0002", [(1, 8), (4, 9)]), ("task-0001", [(2, 4), (3, 5)])])
-        self.assertIn("Task-0002 takes b#2: run at server.c:8.", result["message"]["text"])
+        self.assertIn("Thread 2 takes b#2: run at server.c:8.", result["message"]["text"])
 
     def test_sarif_of_what_is_kept_apart_has_one_flow_and_is_a_warning(self) -> None:
         ring = Ring(APART, False, WAITS, (), (Forced("task-0001", "none left", None, None),))
         result = json.loads(sarif(self.found(self.shown(ring, Verdict.APART), Placed())))["runs"][0]["results"][0]
         self.assertEqual((result["level"], len(result["codeFlows"])), ("warning", 1))
-        self.assertIn("So task-0001 is past the last place where it would wait.", result["message"]["text"])
+        self.assertIn("So thread 1 is past the last place where it would wait.", result["message"]["text"])
 
     def test_junit_has_the_steps(self) -> None:
-        self.assertIn("\n  task-0002 takes b#2: run at server.c:8\n", junit(self.found(self.shown(), Placed())))
+        self.assertIn("\n  thread 2 takes b#2: run at server.c:8\n", junit(self.found(self.shown(), Placed())))
+
+    def test_junit_skips_what_does_not_make_the_status(self) -> None:
+        apart = self.shown(Ring(APART, False, WAITS, (), (Forced("task-0001", "none left", None, None),)), Verdict.APART)
+        for found, only_counted, counts, element in ((apart, False, 'failures="1" errors="0" skipped="0"', '<failure type="circle" message="a and b are taken in both orders">'),
+                                                     (apart, True, 'failures="0" errors="0" skipped="1"', '<skipped message="a and b are taken in both orders: kept apart">'),
+                                                     (self.shown(), True, 'failures="1" errors="0" skipped="0"', '<failure type="circle" message="a and b are taken in both orders">')):
+            text = junit(dataclasses.replace(self.found(found, Placed()), only_counted=only_counted))
+            self.assertIn(counts, text)
+            self.assertIn(element, text)
 
     def test_the_page_has_a_table_of_the_schedule(self) -> None:
         finding = self.shown()
         text = finding_html(finding, self.found(finding, Placed()))
         self.assertIn("<h3>The recorded steps that stand still, in another order</h3>\n", text)
         table = text.partition("in another order</h3>")[2].partition("</table>")[0]
-        self.assertIn('<th scope="col">task-0002</th><th scope="col">task-0001</th>', table)
-        self.assertIn('<tr><td class="time">1</td><td data-task="task-0002"><span class="takes">takes b#2</span><br>run at server.c:8</td>'
-                      '<td data-task="task-0001"></td></tr>\n', table)
-        self.assertIn('<td data-task="task-0002"><span class="waits">waits for a#1 as a reader</span><br>run at server.c:9</td>', table)
+        self.assertIn('<th scope="col">Thread 2</th><th scope="col">Thread 1</th>', table)
+        self.assertIn('<tr><td class="time">1</td><td data-task="Thread 2"><span class="takes">takes b#2</span><br><a href="#record-1-1">run at server.c:8</a></td>'
+                      '<td data-task="Thread 1"></td></tr>\n', table)
+        self.assertIn('<td data-task="Thread 2"><span class="waits">waits for a#1 as a reader</span><br><a href="#record-1-4">run at server.c:9</a></td>', table)
         self.assertEqual(table.count("<tr><td"), 5)  # (the last row says that it is a deadlock)
+        self.assertEqual(text.count('<div class="record" id="record-1-'), 4)
 
     def test_the_page_says_what_keeps_steps_apart(self) -> None:
         finding = self.shown(Ring(APART, False, WAITS, (), (Forced("task-0001", "none left", None, None),)), Verdict.APART)
         text = finding_html(finding, self.found(finding, Placed()))
-        self.assertIn('<h3>What keeps these steps apart</h3>\n<pre tabindex="0"><code>so task-0001 is past the last place where it would wait\n</code></pre>', text)
+        self.assertIn('<h3>What keeps these steps apart</h3>\n<pre tabindex="0"><code>so thread 1 is past the last place where it would wait\n</code></pre>', text)
         self.assertNotIn("stand still, in another order", text)

@@ -3,10 +3,10 @@ import os
 import unittest
 from unittest import mock
 
-from cases import between, circle, findings
+from cases import between, circle, findings, order
 from lockdep.ask.breaches import Breach
 from lockdep.base.saying import Refusal
-from lockdep.base.words import type_of_class
+from lockdep.base.words import lines_of, type_of_class, visible
 from lockdep.binaries.symbols import Address, Frame
 from lockdep.known.known import list_of, sort
 from lockdep.known.suppressions import entries_of, pattern_text, strength
@@ -96,9 +96,12 @@ class Grammar(unittest.TestCase):
             with self.assertRaises(Refusal) as raised:
                 entries_of("# known\n%s\n" % line, "list")
             self.assertTrue(raised.exception.line.startswith("list: line 2 is no finding"))
+        with self.assertRaises(Refusal) as raised:
+            list_of([], "# mine\nno finding\n", Made_up({}), name="written")
+        self.assertTrue(raised.exception.line.startswith("written: line 2 is no finding"))
 
     def test_a_reason_with_until_ends_with_a_date(self):
-        for reason in ("until 2030-13-01", "until 2030-02-30", "until 2020-01-01.", "until 2020-01-01, ticket 5", "until 1 Jan 2020", "Until", "until 2030-1-1"):
+        for reason in ("until 2030-13-01", "until 2030-02-30", "until 2020-01-01.", "until 2020-01-01, ticket 5", "until 1 Jan 2020", "Until", "until 2030-1-1", "until \uff12030-01-01"):
             with self.assertRaises(Refusal) as raised:
                 entries_of("\ncycle class:a # by design, %s\n" % reason, "list")
             self.assertEqual(raised.exception.line, "list: line 2 has a reason with `until` and no date at its end, such as `until 2027-03-01`")
@@ -157,6 +160,18 @@ class Hiding(unittest.TestCase):
         result = sorted_by("cycle class:* # until 2020-01-31\n")
         self.assertEqual((keys(result.new), len(result.stale)), (["a/0", "c/0"], 1))
         self.assertEqual(sorted_by("cycle class:* # until 9999-12-31\n").new, [])
+
+    def test_an_entry_holds_on_its_last_day(self):
+        entry = entries_of("circle a/0 EN b/0 # until 2026-11-30\n", "list")[0]
+        self.assertEqual([entry.is_expired(day) for day in ("2026-11-29", "2026-11-30", "2026-12-01")], [False, False, True])
+
+    def test_a_pattern_sees_the_records_of_the_finding_between_single_locks(self):
+        inner = circle("a#1/0", "b#1/0", orders=[order("a#1/0", "EN", "b#1/0", record=9), order("b#1/0", "EN", "a#1/0", record=9)])
+        found = findings([circle("a/0", "b/0", between=between("locks", inner))])
+        sources = Made_up({"a": ("named", []), "b": ("named", [])})
+        sources.frames = lambda event: [Frame("at_%d" % event.record, "/src/store/disk.c", 7, "")]
+        for text, known in (("cycle function:at_9", 1), ("cycle function:at_3", 1), ("cycle function:at_4", 0)):
+            self.assertEqual(len(sort(found, [], entries_of(text + "\n", "list"), sources).known), known, text)
 
     def test_a_pattern_of_blocked_threads_past_its_day_hides_none(self):
         for text, hides in (("blocked class:*", True), ("blocked class:* # until 9999-12-31", True), ("blocked class:* # until 2020-01-31", False),
@@ -447,6 +462,52 @@ class Writing(unittest.TestCase):
         text = list_of(findings(TWO), old, Made_up({"a": at("one.c")}))
         self.assertEqual(text.split("\n"), ["# ours", "cycle class:c class:d # why", " circle a/0 EN b/0", "#   a: static one.c:3",
                                             "circle b/0 EN a/0", "#   a: static one.c:3", ""])
+
+
+class Odd(unittest.TestCase):
+    """What a recording calls a lock's kind, module, function or file may have anything but a tab and a line feed."""
+
+    ODD = ("x\rcircle q/0 EN r/0\r#", "x\ncycle class:*", "x\x85cycle class:*", "x\x0bcycle class:*\x0c", "x\x1ccycle class:*\x1d#\x1e", "x\u2028cycle class:*\u2029",
+           "\x1b[31m", "\u202e", "\x00", "x y: z", "a at b", "a < b", "x:3: y", " ", "", "\\n")
+
+    def written(self, odd):
+        """A list of what has such a text wherever one may be, and where its locks are made."""
+        places = {"a@" + odd: (odd, [Frame(odd, "/src/%s.c" % odd, 3, odd), Frame("", "", 0, odd)]), "b": ("static", Frame(odd, "", 0, odd + "+10"))}
+        text = list_of(findings(TWO[:1]), "", Made_up(places), (), [Breach("hold", ("a/0",), "", (Event("breaches", 0),))])
+        return text, places
+
+    def test_no_line_is_another_ones(self):
+        for odd in self.ODD:
+            text, _ = self.written(odd)
+            self.assertEqual([line for line in text.split("\n")[1:-1] if not line.startswith("#")],
+                             LINES.split("\n")[:-1] + ["hold class:a function:flush_all"], repr(text))
+            self.assertEqual(len(text.splitlines()), text.count("\n"))
+            self.assertEqual(visible(text), text.replace("\n", "\\n"))
+            self.assertEqual([entry.text for entry in entries_of(text, "list")], LINES.split("\n")[:-1] + ["hold class:a function:flush_all"])
+
+    def test_what_is_written_is_found_again(self):
+        for odd in self.ODD:
+            text, places = self.written(odd)
+            result = sorted_by(text, places, TWO[:1])
+            self.assertEqual((result.new, result.stale), ([], []), text)
+            self.assertEqual(list_of(findings(TWO[:1]), text, Made_up(places)).split("\nhold")[0] + "\n", text[:text.index("hold")])
+
+    def test_another_kind_is_another_place(self):
+        text, places = self.written("x\r")
+        result = sorted_by(text, dict(places, b=at("other.c")), TWO[:1])
+        self.assertEqual((len(result.new), len(result.stale)), (1, 2))
+
+    def test_a_pattern_has_no_function_of_several_lines(self):
+        text = pattern_text("hold", ["a"], "f\rcycle class:*\x1b\u202e")
+        self.assertEqual(text, "hold class:a function:f?cycle?class:[*]??")
+        self.assertTrue(entries_of(text + "\n", "list")[0].hides("hold", [("a",)], [("f\rcycle class:*\x1b\u202e", "x.c")]))
+
+    def test_a_line_ends_with_a_line_feed_alone(self):
+        for end in ("\r", "\x0b", "\x0c", "\x1c", "\x1d", "\x1e", "\x85", "\u2028", "\u2029"):
+            self.assertEqual([entry.line for entry in entries_of("# one%scycle class:*\ncircle a/0 EN b/0\r\n" % end, "list")], ["circle a/0 EN b/0"])
+            self.assertRaises(Refusal, entries_of, "circle a/0 EN b/0%scircle b/0 EN a/0\n" % end, "list")
+        self.assertEqual(lines_of("a\r\nb\x85\r\r\n\nc"), ["a", "b\x85\r", "", "c"])
+        self.assertEqual((lines_of(""), lines_of("\n")), ([], [""]))
 
 
 if __name__ == "__main__":

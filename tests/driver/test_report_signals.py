@@ -42,7 +42,7 @@ DOUBLE = """double SIGUSR1:on_usr1 table/0
   on_usr1, the handler for SIGUSR1, takes table: reload at server.c:12 < on_usr1 at server.c:31
   taken with SIGUSR1 unblocked: insert at server.c:41
   if SIGUSR1 comes in while a thread holds table there, the handler waits for the thread that it interrupted
-  SIGUSR1 was sent to the process: any thread may get it
+  SIGUSR1 was sent to the process: any thread that has it unblocked may get it
   to mend it: block SIGUSR1 around table, or let the handler only set a flag or write to a pipe
   not known: table: the order of steps doesn't say when a signal may come in
 """
@@ -112,9 +112,9 @@ class OfHandlers(unittest.TestCase):
         return ask_about(self.folder).findings()
 
     def confirmed(self, *words):
-        """The status of `confirm`, and what it writes."""
+        """The status of `confirm --verbose`, and what it writes."""
         program = "import sys; sys.path[:0] = %r; from lockdep import parts; sys.exit(parts.run('confirm', sys.argv[1:]))" % sys.path
-        done = subprocess.run([sys.executable, "-c", program, self.folder, *words], stdout=subprocess.PIPE, stderr=subprocess.PIPE)
+        done = subprocess.run([sys.executable, "-c", program, "--verbose", self.folder, *words], stdout=subprocess.PIPE, stderr=subprocess.PIPE)
         return done.returncode, done.stdout.decode(), done.stderr.decode()
 
     def form(self, form):
@@ -181,12 +181,12 @@ class Told(OfHandlers):
         os.remove(os.path.join(self.folder, "signals/threads"))
         self.assertIn("\n  not known: pool, table, by 2 threads: %s\n" % GONE, self.confirmed()[1])
 
-    def two_at_once(self, takes="acq,pool,0,w"):
+    def two_at_once(self, takes="acq,pool,0,w", holder=TABLE):
         """One thread takes pool, where the handler that takes table comes in, and another one table, where the handler that takes pool does."""
         off = (("off,hardirq", ""),)
         self.handlers(USR1, ALARM)
         self.set_of(1, POOL, off + TABLE, IN_USR1)
-        self.set_of(2, off + POOL, TABLE, (("enter,hardirq", ""), (takes, "server.c:61 on_alarm"), ("rel,pool,0", ""), ("leave", "")))
+        self.set_of(2, off + POOL, holder, (("enter,hardirq", ""), (takes, "server.c:61 on_alarm"), ("rel,pool,0", ""), ("leave", "")))
 
     def test_two_signals_at_once(self):
         self.two_at_once()
@@ -197,6 +197,21 @@ class Told(OfHandlers):
         self.assertIn("  thread 1 holds pool, thread 2 holds table, where SIGALRM comes in, whose handler waits for pool", lines)
         self.assertIn("  to mend it: block SIGUSR1 around pool, block SIGALRM around table, or let the handler only set a flag or write to a pipe", lines)
         self.assertFalse([name for name in os.listdir(self.folder) if name.startswith(".")])
+
+    def test_places_of_an_order_by_another_signal_are_those_of_its_two_traces(self):
+        self.two_at_once()
+        order = json.loads(self.form("json"))["findings"][0]["orders"][0]
+        self.assertEqual([order[name] for name in ("from", "to", "signal", "handler")], ["table/0", "pool/0", "SIGALRM", "on_alarm"])
+        self.assertNotEqual(order["file"], order["since_file"])
+        self.assertEqual(order["places"], [{"function": "on_alarm", "file": "server.c", "line": 61}])
+        self.assertEqual(order["since_places"], [{"function": "insert", "file": "server.c", "line": 41}])
+
+    def test_two_signals_at_once_of_which_one_is_unblocked_with_a_lock_held(self):
+        self.two_at_once(holder=UNBLOCKS)
+        lines = self.confirmed()[1].split("\n")
+        self.assertEqual([line for line in lines if line.startswith("inversion")],
+                         ["inversion SIGUSR1:on_usr1 table/0 pool/0", "inversion SIGALRM:on_alarm pool/0 table/0"])
+        self.assertIn("  table/0 EN pool/0: on_alarm at server.c:61 takes pool, with table held since flush at server.c:43", lines)
 
     def test_two_signals_of_one_thread(self):
         self.two_at_once()
@@ -241,7 +256,7 @@ double SIGTERM:server+10 libc:malloc/0
   the handler for SIGTERM at server+10 calls malloc, free or the like: strdup at strdup.c:42 < stop at server.c:12
   called with SIGTERM unblocked: insert at server.c:41
   if SIGTERM comes in during such a call, the handler waits for ever, or the heap is damaged
-  SIGTERM was sent to the process: any thread may get it
+  SIGTERM was sent to the process: any thread that has it unblocked may get it
   to mend it: let the handler only set a flag or write to a pipe
   not known: libc:malloc: the order of steps doesn't say when a signal may come in
 """)
@@ -359,8 +374,8 @@ double SIGTERM:server+10 libc:malloc/0
         lines = [result["locations"][0]["physicalLocation"]["region"]["startLine"] for result in run["results"]]
         self.assertEqual(lines, [12, 61])  # where the handler takes the lock
         self.assertEqual([flow["id"] for flow in run["results"][1]["codeFlows"][0]["threadFlows"]], ["thread 1", "thread 2", "the handler"])
-        self.assertIn("Thread 1 holds table/0 with SIGUSR1 unblocked, and SIGUSR1 comes in at thread 1, whose handler waits for table/0, which is given "
-                      "back only when the handler has ended. SIGUSR1 was sent to", run["results"][0]["message"]["text"])
+        self.assertIn("table is taken by the handler of SIGUSR1 while other code holds it. insert holds table, server.c:41 (when SIGUSR1 comes in). "
+                      "reload waits for table, server.c:12 (the handler of SIGUSR1). SIGUSR1 was sent to", run["results"][0]["message"]["text"])
 
     def test_junit(self):
         self.both()
@@ -377,8 +392,10 @@ double SIGTERM:server+10 libc:malloc/0
             self.assertIn('<th scope="col">%s<br><small>signals/%s</small></th>' % (title, trace), text)
         self.assertIn("<code>double SIGNAL:HANDLER A/0</code>: the handler of that signal takes", text)
         self.assertIn('<p class="note">SIGALRM (on_alarm at server.c:60) was sent to single threads alone', text)
-        self.assertIn("<p>Thread 1 holds <code>pool/0</code> with SIGALRM unblocked, thread 2 holds <code>stats/0</code> and waits for <code>pool/0</code>, "
-                      "and SIGALRM comes in at thread 1, whose handler waits for <code>stats/0</code>, so none of them goes on.</p>", text)
+        self.assertIn("2. stats is taken by the handler of SIGALRM, and held where pool is taken, which other code holds when SIGALRM comes in</h2>", text)
+        for row in ("main holds pool, server.c:52 (when SIGALRM comes in)", "worker holds stats, server.c:19, and waits for pool, server.c:20 (thread 2)",
+                    "on_alarm waits for stats, server.c:61 (the handler of SIGALRM)"):
+            self.assertIn("<li>%s</li>" % row, text)
         self.assertNotIn('id="picture"', text)
 
     def test_a_recording_without_handlers_has_none_of_this(self):
@@ -425,7 +442,8 @@ class Judged(OfHandlers):
         self.assertEqual([(finding.head, finding.level, finding.verdict, finding.is_counted) for finding in found], [
             ("inversion SIGALRM:on_alarm stats/0 pool/0", Level.LOCKS, Verdict.NOT_KNOWN, True),
             ("double SIGUSR1:on_usr1 table/0", Level.CLASSES, Verdict.CLASSES, False)])
-        self.assertEqual(self.confirmed("--strict")[0], 1)
+        for option in ("--confirmed-only", "--strict"):
+            self.assertEqual(self.confirmed(option)[0], 1)
         self.assertIn("  taken with SIGUSR1 unblocked: insert at server.c:41 takes table#1", self.confirmed()[1].split("\n"))
 
     def status(self, **options):
@@ -440,6 +458,7 @@ class Judged(OfHandlers):
         self.handlers(USR1)
         self.set_of(1, [("acq,table#1,0,w", "")], [("enter,hardirq", ""), ("acq,table#2,0,w", ""), ("rel,table#2,0", ""), ("leave", "")])
         self.assertEqual((self.status(), self.status(confirmed_only=True)), (9, 0))
+        self.assertEqual([self.confirmed(*words)[0] for words in ((), ("--confirmed-only",), ("--strict",))], [1, 0, 0])
 
     def test_cycles_of_a_set_are_those_of_the_threads(self):
         self.handlers(USR1)

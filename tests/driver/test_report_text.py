@@ -12,7 +12,7 @@ import unittest
 from lockdep.ask.asking import ask_about_threads
 from lockdep.ask.blocked import blocked_threads
 from lockdep.base.words import class_of_lock, stands_for_several, type_of_class, visible
-from lockdep.binaries.cplusplus import Demangler
+from lockdep.binaries.cplusplus import Demangler, without_parameters
 from lockdep.binaries.elf import within_functions
 from lockdep.binaries.symbols import Address, Symbols, frame_of, place_words, source_frame
 from lockdep.places.places import key_of_record, made_of, record_lines
@@ -61,6 +61,11 @@ class Names(unittest.TestCase):
     def test_names_of_several_locks(self):
         self.assertEqual([stands_for_several(name) for name in ("a#rest", "a#rest@7", "a#1", "#rest", "a#resting")],
                          [True, True, False, False, False])
+
+    def test_functions_without_parameters_and_tags(self):
+        for function, name in (("Cache::get[abi:cxx11](int)", "Cache::get"), ("Cache::get[abi:cxx11]", "Cache::get"), ("void f<int>(int) const", "f<int>"),
+                               ("main", "main"), ("a[abi:v1]::b[abi:v2](c)", "a::b"), ("operator()", "operator()")):
+            self.assertEqual(without_parameters(function), name)
 
     def test_symbols_of_cplusplus(self):
         demangler = Demangler()
@@ -125,9 +130,9 @@ class Stripped(unittest.TestCase):
             said = subprocess.run(["nm", program], stdout=subprocess.PIPE, check=True).stdout.decode().split("\n")
             at = {line.split()[2]: int(line.split()[0], 16) for line in said if len(line.split()) == 3}
             with open(reader, "w") as file:
-                file.write("#!/bin/sh\n[ $1 = --code ] || { echo /src/pool.h:3; exit; }\n"
+                file.write("#!/bin/sh\n[ $1 = --places ] || exit\n"
                            "printf '0x%016x\\n_ZN4Pool4lockEv\\n/src/pool.h:7\\nuse\\n/src/use.c:9\\n' ")
-                file.write("%d\nprintf '0x%%016x\\n??\\n??:0\\n' %d\n" % (at["main"], at["shown"]))
+                file.write("%d\nprintf '0x%%016x\\n??\\n??:0\\n/src/pool.h:3\\n' %d\n" % (at["main"], at["shown"]))
             os.chmod(reader, 0o755)
             places = {"main": Address(program, at["main"] + 1), "shown": Address(program, at["shown"] + 1),
                       "table": Address(program, at["table"], is_code=False)}
@@ -144,13 +149,18 @@ class Stripped(unittest.TestCase):
         self.assertEqual(within_functions(__file__, [1]), set())
 
 
+def record_of(word):
+    """A record that takes a lock, gives it back (`-a`) or got it by a try (`?a`)."""
+    return "rel,%s,0\n" % word[1:] if word[0] == "-" else "acq,%s,0,%s\n" % (word.lstrip("?"), "tw" if word[0] == "?" else "w")
+
+
 class Blocked(unittest.TestCase):
     def made(self, *traces, summary):
         with tempfile.TemporaryDirectory() as folder:
             os.mkdir(os.path.join(folder, "objects"))
             for number, trace in enumerate(traces, 1):
                 with open(os.path.join(folder, "objects", "task-%04d.csv" % number), "w") as file:
-                    file.write("lockdep,2\n" + "".join("rel,%s,0\n" % word[1:] if word[0] == "-" else "acq,%s,0,w\n" % word for word in trace.split()))
+                    file.write("lockdep,2\n" + "".join(record_of(word) for word in trace.split()))
                 open(os.path.join(folder, "task-%04d.csv" % number), "w").close()
             self.blocked = blocked_threads(ask_about_threads(folder), Summary(parse(summary)))
             return [thread.sentence for thread in self.blocked]
@@ -168,6 +178,19 @@ class Blocked(unittest.TestCase):
         self.assertEqual(self.blocked[0].orders, {("a#1", "a#1")})
         self.assertEqual(self.made("a#rest a#rest", summary=summary), ["task-0001 waits for a#rest"])  # (which may be another one)
         self.assertEqual(self.blocked[0].orders, frozenset())
+
+    def test_a_thread_that_waits_for_a_cycle_is_no_part_of_it(self):
+        summary = "waiting 3\n  task-0001 waits for a\n  task-0002 waits for b, holding a\n  task-0003 waits for a, holding b\nat-exit 0\n"
+        self.assertEqual(self.made("a", "a b", "b a", summary=summary), [
+                         "task-0001 waits for a, which task-0002 holds since record 2 while it waits for b, which task-0003 holds since record 2 "
+                         "while it waits for a, which task-0002 holds since record 2 while it waits for b",
+                         "task-0002 waits for b, which task-0003 holds since record 2 while it waits for a, which task-0002 holds "
+                         "since record 2 while it waits for b: these threads stand still"])
+        self.assertEqual([thread.is_cycle for thread in self.blocked], [False, True])
+
+    def test_nobody_waits_by_a_try(self):
+        summary = "waiting 1\n  task-0001 waits for b, holding a\nat-exit 0\n"
+        self.assertEqual(self.made("a b ?c", "b", summary=summary), ["task-0001 waits for b, which task-0002 holds since record 2"])
 
     def test_a_holder_that_ended(self):
         summary = "waiting 1\n  task-0001 waits for m\nat-exit 0\nheld-at-end 1\n  task-0002 ended holding m\n"

@@ -12,7 +12,7 @@ from lockdep.say.verdict_words import REASONS
 # Whether a finding of each verdict counts where only what is possible, or not known, does; of one that isn't shown its reason says that.
 COUNTS = {Verdict.HAPPENED: True, Verdict.POSSIBLE: True, Verdict.BY_JOIN: False, Verdict.NOT_KNOWN: True, Verdict.APART: False, Verdict.CLASSES: False}
 REASONS_COUNT = {Reason.ORDER: True, Reason.LIKE_THREADS: True, Reason.FEWER_THREADS: False, Reason.ONE_LOCK: False, Reason.NO_RING: False, Reason.TIMED: False,
-                 Reason.LATE: False}
+                 Reason.LATE: False, Reason.TURNED_OFF: False}
 
 
 class Verdicts(unittest.TestCase):
