@@ -1,9 +1,10 @@
 # What the tests of `lockdep provoke` have in common, whose programs are in tests/provoke beside the script: sourced by them after tests/lib.sh.
 
-# provoke WORD...: what it says is in `said`, and its status in $status.
+# provoke WORD...: what it says is in `said`, and its status in $status. One that hangs is ended, and named.
 provoke() {
-    "$top/lockdep" provoke --sure 1 "$@" >said 2>&1
+    timeout --foreground "$limit" "$top/lockdep" provoke --sure 1 "$@" >said 2>&1
     status=$?
+    [ "$status" != 124 ] || echo "lockdep provoke $*: it hung, and was ended after $limit seconds" | tee -a said
 }
 
 # The innermost places at which the threads wait, sorted.

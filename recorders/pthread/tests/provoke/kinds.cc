@@ -110,7 +110,6 @@ static void relock() {
              std::lock_guard<std::mutex> wakes(b);
              is_woken = true;
              condition.notify_one();
-             end_turn(1); // (before the first thread gets b again, and ends turn 2)
          },
          [] {
              await_turn(3, 4);

@@ -20,7 +20,11 @@ static void await_turn(int number, int threads) {
         usleep(1000);
 }
 
-/* Does nothing if that turn is over. */
-static void end_turn(int number) { __atomic_compare_exchange_n(&turns, &number, number + 1, 0, __ATOMIC_ACQ_REL, __ATOMIC_ACQUIRE); }
+/* Ends a turn, with those before it: who ends a turn may come before the thread whose turn was the one before has said that it is over. */
+static void end_turn(int number) {
+    int over = __atomic_load_n(&turns, __ATOMIC_ACQUIRE);
+    while (over <= number && !__atomic_compare_exchange_n(&turns, &over, number + 1, 0, __ATOMIC_ACQ_REL, __ATOMIC_ACQUIRE))
+        ;
+}
 
 #endif
