@@ -18,7 +18,7 @@ from lockdep.base.saying import Refusal
 from lockdep.binaries.symbols import Address
 from lockdep.gather import agreement, engines, facts, gathered, gathering, kept_places, memory, nights, orders, places, recordings, timed, whole
 from lockdep.gather.facts import Facts, Lacking, Program
-from lockdep.gather.findings import Back
+from lockdep.gather.findings import Back, all_wanted
 from lockdep.gather.gathered import Listed
 from lockdep.gather.orders import Seen
 from lockdep.places import places as places_of_traces
@@ -375,6 +375,31 @@ class Nights(unittest.TestCase):
         left = {b"A/0 EN B/0": Seen(), b"A/0 EN C/0": Seen(), b"used hardirqs on A/0": Seen()}
         self.assertEqual(nights.kept_trace(trace, left, {(2,)}), b"lockdep,1\noff,hardirq\nacq,A,0,w\nacq,B,0,w\nrel,B,0\nrel,A,0\non,hardirq\nacq,A,0,w\nrel,A,0\n")
         self.assertEqual(nights.kept_trace(trace, {**left, b"used hardirqs on B/0": Seen()}, set()), trace)
+
+
+class Questions(unittest.TestCase):
+    """Of each part of a question so few locks lead to one another, once its orders are closed, that the checker answers it."""
+
+    def parts(self, pairs: list[tuple[str, str]]) -> list[list[tuple[str, str, str]]]:
+        orders = [(first + "/0", "EN", second + "/0") for first, second in pairs]
+        parts = list(places.bundles(orders))
+        self.assertEqual(Counter(order for part in parts for order in part), Counter(orders))
+        return parts
+
+    def test_a_long_chain(self) -> None:
+        parts = self.parts([("c%d" % number, "c%d" % (number + 1)) for number in range(1000)])
+        self.assertEqual([len(part) for part in parts], [997, 3])  # (after each 255th order, which joins 256 locks, one is left)
+
+    def test_many_orders_of_one_lock(self) -> None:
+        self.assertEqual([len(part) for part in self.parts([("a", "b%d" % number) for number in range(600)])], [255, 255, 90])
+
+    def test_what_is_joined_already(self) -> None:
+        names = ["k%d" % number for number in range(256)]
+        self.assertEqual(len(self.parts([(first, second) for first in names for second in names[:9]])), 1)
+
+    def test_marks_without_a_counterpart_are_not_asked_for(self) -> None:
+        entries = [b"a/0 EN b/0", b"used hardirq a/0", b"used hardirqs on b/0", b"used softirqs on a/0"]
+        self.assertEqual(all_wanted(entries), [("a/0", "EN", "b/0"), ("used", "hardirq", "a/0"), ("enabled", "hardirq", "b/0")])
 
 
 class KeptPlaces(unittest.TestCase):

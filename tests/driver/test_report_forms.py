@@ -104,7 +104,7 @@ class Sides(unittest.TestCase):
 
 class Json(unittest.TestCase):
     def test_hidden_characters_are_escaped(self):
-        for text, written in (("a\x9b\u202e\x7f\x1b", '"a\\u009b\\u202e\\u007f\\u001b"'), ("\xe9\U0001f512\udcff", '"\xe9\U0001f512\udcff"')):
+        for text, written in (("a\x9b\u202e\x7f\x1b", '"a\\u009b\\u202e\\u007f\\u001b"'), ("\xe9\U0001f512\udcff", '"\xe9\U0001f512\\udcff"')):
             self.assertEqual(compact(text), written)
 
     def test_an_occurrence_has_the_name_of_its_thread(self):

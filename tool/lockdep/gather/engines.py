@@ -19,7 +19,7 @@ from ..base.home import HOME
 from ..base.saying import Refusal
 from ..base.words import bytes_of, visible
 from .facts import Facts, apart, joined
-from .tasks import START, made_by, result_of
+from .tasks import START, made_by, refusal_in, result_of
 
 ARITY = 8  # results that are merged at a time
 TRIES = 3  # of a task whose process was ended
@@ -112,16 +112,17 @@ class Tree:
         try:
             said, (result,) = apart(raw)
             lacks = why_unfit(said, made_by(self.work.common["program"]))
-            if where and not lacks and not said["refused"]:
+            refusal = refusal_in(said)
+            if where and not lacks and not refusal:
                 lacks = why_elsewhere(Facts.unpacked(result), self.work.groups[node[1]] if node[0] == 0 else [])
         except DAMAGED:
-            said, result, lacks = {}, b"", "what it returns is no result of `gather`"
+            said, result, refusal, lacks = {}, b"", None, "what it returns is no result of `gather`"
         if lacks:
             self.engine.leave_out(where, "%s: %s" % (visible(str(said.get("host") or where or "this machine")), visible(lacks)))
             self.again.append(node)
             return
-        if said.get("refused"):
-            raise Refusal(*said["refused"])
+        if refusal:
+            raise refusal
         self.results[node] = result
         for child in self.work.children(node):
             del self.results[child]

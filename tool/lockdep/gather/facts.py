@@ -12,6 +12,7 @@ import signal
 import subprocess
 import tempfile
 import zlib
+from collections import Counter
 from typing import IO, Iterable
 
 from ..base.files import opened
@@ -39,6 +40,14 @@ WHY_FOLDED = {TOO_MANY: b"keys", TOO_LONG: b"events", TOO_TANGLED: b"tangles"}
 
 class Lacking(Exception):
     """What a task can't be done without, and this machine lacks: another one may have it. It is no fault of a recording."""
+
+
+class TooMuch(Refusal):
+    """All recordings together are more than the checker takes, even with no single locks told apart. The largest one has the most orders and marks."""
+
+    def __init__(self, line: str | None, largest: Number) -> None:
+        super().__init__(line)
+        self.largest = largest
 
 
 class Program:
@@ -211,14 +220,16 @@ def condense(program: Program, facts: Facts) -> None:
         fold(facts, TOO_LONG if TOO_LONG in answer.said else TOO_TANGLED)
         answer = program.condensed_texts(facts.texts)
     if answer.status >= REFUSED:
-        raise Refusal(why_refused(answer))
+        raise refusal_of(answer, facts.orders)
     facts.texts = [answer.output]
 
 
-def why_refused(answer: Answer) -> str:
-    """Why all recordings together can't be checked, even with no single locks told apart."""
+def refusal_of(answer: Answer, orders: Table) -> Refusal:
+    """Why all recordings together can't be checked."""
     much = next((words for code, words in TOO_MUCH.items() if code in answer.said), "")
-    return "all recordings together have %s: gather them by program, or record one subsystem at a time" % much if much else answer.reason
+    counts = Counter(number for seen in orders.values() for number in seen.first)
+    largest = max(counts, key=lambda number: (counts[number], number), default=())
+    return TooMuch("all recordings together have " + much, largest) if much else Refusal(answer.reason)
 
 
 # ---- Folding.

@@ -212,7 +212,7 @@ def put_places(findings: list[Finding], back: Back) -> None:
 def places_text(back: Back, sources: Sources, is_of_all: bool) -> bytes:
     """The file of places: of the orders and marks of findings, or of all, since a recording may be gone when its order makes a cycle."""
     if is_of_all:
-        back.look([(False, what) for what in map(wanted_of, back.table) if what and what not in back.kept.lines][:MOST_KEPT])
+        back.look([(False, what) for what in all_wanted(back.table) if what not in back.kept.lines][:MOST_KEPT])
     found = {what: back.places[False, what] for what in back.found_in}
     sources.want_events(events_of(found.values()))
     sources.want_made([made for what, place in found.items() for made in back.kept.made_for(what, place["file"])])
@@ -220,6 +220,13 @@ def places_text(back: Back, sources: Sources, is_of_all: bool) -> bytes:
     for what, place in found.items():
         back.kept.take(what, place, back.found_in[what], sources)
     return text_of_file(back.kept.lines)
+
+
+def all_wanted(table: Iterable[bytes]) -> list[Wanted]:
+    """The orders of a table, and the marks of those states of interrupts of which it has both kinds: others can't be in a finding."""
+    several = [what for what in map(wanted_of, table) if what]
+    kinds = {what[:2] for what in several if what[0] in MARKS}
+    return [what for what in several if what[0] not in MARKS or kinds.issuperset((mark, what[1]) for mark in MARKS)]
 
 
 def hide_classes(findings: list[Finding]) -> None:

@@ -8,7 +8,7 @@ import tempfile
 import zlib
 from collections import Counter
 from itertools import takewhile
-from typing import Dict, NamedTuple
+from typing import Dict, Iterator, NamedTuple
 
 from ..base.files import MOST_OF_FILE, is_file, write_in_place
 from ..base.saying import Refusal
@@ -26,6 +26,7 @@ from .recordings import traces_of
 Places = Dict[Wanted, dict]  # for each the occurrence, as the checker's JSON has it
 
 OCCURRENCE = ("file",) + OF_CHECKER
+MOST_TANGLED = 256  # lock classes that lead to one another which the checker takes
 
 
 def field_of(key: str) -> str:
@@ -54,7 +55,50 @@ def parts_of(said: dict) -> list[tuple[Wanted, dict]]:
 
 
 def places_in(found: Found, wanted: list[Wanted], words: list[str]) -> Places:
-    """Where the traces have these, by keys of types or of single locks, as the words of the question say; what they don't have is missing."""
+    """Where the traces have these, by keys of types or of single locks, as the words of the question say; what they don't have is missing. Marks are asked
+    for by themselves, since one makes a finding with each lock that an order leads to."""
+    marks = [what for what in wanted if what[0] in MARKS]
+    places: Places = {}
+    for asked in [*bundles([what for what in wanted if what[0] not in MARKS]), *([marks] if marks else [])]:
+        places.update(places_of(found, asked, words))
+    return places
+
+
+class Together:
+    """Locks that orders join, at most so many."""
+
+    def __init__(self, most: int) -> None:
+        self.most = most
+        self.above: dict[str, str] = {}
+        self.sizes: dict[str, int] = {}
+
+    def top(self, lock: str) -> str:
+        while self.above.get(lock, lock) != lock:
+            self.above[lock] = lock = self.above.get(self.above[lock], self.above[lock])
+        return lock
+
+    def has_joined(self, first: str, second: str) -> bool:
+        """Joins what two locks are joined with, unless these are too many."""
+        upper, lower = self.top(first), self.top(second)
+        size = self.sizes.get(upper, 1) + (self.sizes.get(lower, 1) if upper != lower else 0)
+        if size > self.most:
+            return False
+        self.above[lower], self.sizes[upper] = upper, size
+        return True
+
+
+def bundles(orders: list[Wanted]) -> Iterator[list[Wanted]]:
+    """The orders in parts. Of each part at most as many locks are joined as the checker takes of those that lead to one another."""
+    while orders:
+        together, taken, left = Together(MOST_TANGLED), [], []
+        for order in orders:
+            (taken if together.has_joined(order[0], order[2]) else left).append(order)
+        yield taken
+        orders = left
+
+
+def places_of(found: Found, wanted: list[Wanted], words: list[str]) -> Places:
+    """The same, asked all at once, or in halves if that is too much."""
     places: Places = {}
     with tempfile.TemporaryDirectory(prefix="lockdep-") as room:
         closing = os.path.join(room, "closing.csv")
@@ -71,6 +115,12 @@ def places_in(found: Found, wanted: list[Wanted], words: list[str]) -> Places:
     return places
 
 
+def in_halves(found: Found, wanted: list[Wanted], words: list[str]) -> Places:
+    """The same, asked about one half after the other, since all together close too many cycles."""
+    middle = len(wanted) // 2
+    return {**places_of(found, wanted[:middle], words), **places_of(found, wanted[middle:], words)}
+
+
 def root_of(listed: Listed) -> str:
     """What leads to a recording from here: its name as it was given, if that leads to the same one from the current folder, else its path."""
     return listed.name if os.path.abspath(listed.name) == listed.path else listed.path
@@ -83,12 +133,6 @@ def names_apart(roots: dict[Number, str]) -> dict[Number, str]:
     names = {number: "%s: %s" % (roots[number[:1]], root) if counts[root] > 1 and len(number) > 1 else root for number, root in roots.items()}
     of_names = Counter(names.values())
     return {number: "%s (recording %s)" % (name, words_of_number(number)) if of_names[name] > 1 else name for number, name in names.items()}
-
-
-def in_halves(found: Found, wanted: list[Wanted], words: list[str]) -> Places:
-    """The same, asked about one half after the other, since all together close too many cycles."""
-    middle = len(wanted) // 2
-    return {**places_in(found, wanted[:middle], words), **places_in(found, wanted[middle:], words)}
 
 
 def traces_at(path: str) -> list[str]:

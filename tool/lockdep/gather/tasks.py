@@ -14,9 +14,10 @@ from typing import Iterator
 from ..base.home import HOME
 from ..base.saying import Refusal
 from ..base.words import bytes_of, reason_of, text_of
-from .facts import Facts, Lacking, Program, apart, joined, merged
+from .facts import Facts, Lacking, Program, TooMuch, apart, joined, merged
 from .memory import limited_memory
 from .nights import Kept
+from .orders import number_of_words, words_of_number
 from .recordings import Bad, Task, facts_of
 
 TOOL = os.path.join(HOME, "tool", "lockdep")
@@ -76,9 +77,18 @@ def payload_of(raw: bytes) -> bytes:
     head, parts = apart(raw)
     if head["lacks"]:
         raise Lacking(head["lacks"])
-    if head["refused"]:
-        raise Refusal(*head["refused"])
+    refusal = refusal_in(head)
+    if refusal:
+        raise refusal
     return parts[0]
+
+
+def refusal_in(said: dict) -> Refusal | None:
+    """What the head of a result says that can't be done at all."""
+    if not said["refused"]:
+        return None
+    line, status = said["refused"]
+    return TooMuch(line, number_of_words(said["largest"])) if said["largest"] is not None else Refusal(line, status)
 
 
 def done_of(head: dict, parts: list[bytes]) -> Facts:
@@ -93,7 +103,7 @@ def done_of(head: dict, parts: list[bytes]) -> Facts:
 def result_of(raw: bytes) -> bytes:
     """Does a task. What this machine lacks, and what can't be done at all, is said in the result."""
     head, parts = apart(raw)
-    said: dict = {"host": socket.gethostname(), "lacks": "", "refused": None}
+    said: dict = {"host": socket.gethostname(), "lacks": "", "refused": None, "largest": None}
     try:
         said.update(made_by(head["program"]))
         return joined(said, [done_of(head, parts).packed()])
@@ -101,6 +111,7 @@ def result_of(raw: bytes) -> bytes:
         said["lacks"] = str(lacking)
     except Refusal as refusal:
         said["refused"] = [refusal.line, refusal.status]
+        said["largest"] = words_of_number(refusal.largest) if isinstance(refusal, TooMuch) else None
     except OSError as error:  # (what a recording raises makes that one bad)
         said["lacks"] = reason_of(error)
     except MemoryError:

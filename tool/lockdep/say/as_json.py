@@ -8,7 +8,7 @@ import re
 from ..ask.blocked import Blocked
 from ..ask.breaches import Breach
 from ..ask.signals import Signals
-from ..base.words import HIDDEN, SURROGATES, text_of, visible
+from ..base.words import HIDDEN, text_of, visible
 from ..binaries.symbols import Frame, Symbols
 from ..program.findings import Event, Finding, event_of
 from ..program.schedules import Forced, Place
@@ -19,11 +19,12 @@ from ..record.threads import name_of_thread
 from .found import Found
 
 VERSION = 3
-ESCAPED = re.compile("[%s]" % "".join("%c-%c" % those for those in HIDDEN if those != SURROGATES))  # (the latter stand for bytes that aren't UTF-8)
+ESCAPED = re.compile("[%s]" % "".join("%c-%c" % those for those in HIDDEN))
 
 
 def compact(value: object) -> str:
-    """JSON in which characters that other forms don't show are escaped, too."""
+    """JSON in which characters that other forms don't show are escaped, too, and so are bytes that aren't UTF-8, each as the surrogate that stands for it:
+    JSON has to be UTF-8."""
     return ESCAPED.sub(lambda found: "\\u%04x" % ord(found.group()), json.dumps(value, ensure_ascii=False, separators=(",", ":")))
 
 
