@@ -375,6 +375,8 @@ class Nights(unittest.TestCase):
         left = {b"A/0 EN B/0": Seen(), b"A/0 EN C/0": Seen(), b"used hardirqs on A/0": Seen()}
         self.assertEqual(nights.kept_trace(trace, left, {(2,)}), b"lockdep,1\noff,hardirq\nacq,A,0,w\nacq,B,0,w\nrel,B,0\nrel,A,0\non,hardirq\nacq,A,0,w\nrel,A,0\n")
         self.assertEqual(nights.kept_trace(trace, {**left, b"used hardirqs on B/0": Seen()}, set()), trace)
+        self.assertEqual(nights.kept_trace(trace, {b"used hardirqs on A/0": Seen()}, {(2,)}),
+                         b"lockdep,1\noff,hardirq\non,hardirq\nacq,A,0,w\nrel,A,0\n")
 
 
 class Questions(unittest.TestCase):

@@ -111,6 +111,9 @@ def kept_trace(trace: bytes, table: Table, gone: set[Number]) -> bytes:
         is_kept = True
         if line.startswith(b"rel,"):
             is_kept = are_kept.pop()
+            if is_kept and not are_kept and not mark and lines[-1].startswith(b"acq,"):  # (of what it was held for nothing is left)
+                lines.pop()
+                is_kept = False
         elif line.startswith(b"acq,"):
             if not mark and not are_kept:
                 held, letter = key, HELD[mode]
