@@ -3,6 +3,7 @@ first one that is still there."""
 from __future__ import annotations
 
 import json
+import os
 from heapq import heapify, heappop, heappush
 from itertools import accumulate, islice
 from typing import Iterable, Iterator
@@ -28,6 +29,7 @@ from .whole import UNCOUNTED, Wholes
 
 NO_LOCKS = "some recordings have no traces of single locks"
 OF_ONE = "`lockdep confirm` of that recording says what the order of its steps shows"
+OF_TRACE = "a trace by itself has no order of steps"
 OF_EACH = "the order of steps that each recording has is of its own steps alone"
 GONE = "%s isn't there any more, so the order of its steps isn't known"
 OWN_CYCLE = ", a cycle of %s own"  # behind locks of a longer one, of which no recording has all
@@ -289,7 +291,9 @@ class InRecordings(Recorded):
         if not whole or not whole.count:
             return OF_EACH
         first = self.there_first(whole).first[0]
-        return OF_ONE if self.back.recordings.is_there(first) else GONE % visible(self.back.recordings.names.get(first, ""))
+        if not self.back.recordings.is_there(first):
+            return GONE % visible(self.back.recordings.names.get(first, ""))
+        return OF_ONE if os.path.isdir(self.back.recordings.roots[first]) else OF_TRACE
 
     def there_first(self, seen: Seen) -> Seen:
         """The same recordings, those first that are there."""
