@@ -115,7 +115,6 @@ class Asked:
         self.entries = known_entries(line)
         self.names: dict[int, str] = {}
         self.refused: dict[str, str] = {}  # of these, with the reason
-        self.named: set[int] = set()  # of those that can't be gathered
 
     def number(self, names: list[str]) -> None:
         """Numbers the recordings, behind those that are there. Those of gathered folders that are among them, or are added to, count once."""
@@ -126,21 +125,15 @@ class Asked:
         self.names = dict(enumerate(names, 1 + max([listed.number[0] for listed in self.same.listed], default=0)))
 
     def facts(self) -> Facts:
-        """What all of them say: if that is more than the checker takes, and what can't be judged is left out, without the largest."""
-        while True:
-            try:
-                return self.facts_of_rest()
-            except TooMuch as much:
-                self.leave_out_largest(much)
+        """What all of them say. If that is more than the checker takes, none of them is left out for it, since many small ones could push out a large one."""
+        try:
+            return self.facts_together()
+        except TooMuch as much:
+            name = self.names.get(much.largest[0], "") if much.largest else ""
+            largest = "; the largest is %s" % visible(name) if name else ""
+            raise Refusal("%s: gather them by program, or record one subsystem at a time%s" % (much.line, largest))
 
-    def leave_out_largest(self, much: TooMuch) -> None:
-        name = self.names.get(much.largest[0], "") if much.largest else ""
-        if not name or name in self.refused or not self.line.has("--skip-bad"):
-            raise Refusal("%s: gather them by program, or record one subsystem at a time%s" % (much.line, "; the largest is %s" % visible(name) if name else ""))
-        self.refused[name] = "%s, and this is the largest" % much.line
-
-    def facts_of_rest(self) -> Facts:
-        """What all of them say but those that were refused."""
+    def facts_together(self) -> Facts:
         size = int(self.line.last("--group", str(DEFAULT_GROUP)))
         numbered = [(number, os.path.abspath(name)) for number, name in self.names.items() if name not in self.refused]
         groups = [numbered[at:at + size] for at in range(0, len(numbered), size)]
@@ -169,9 +162,7 @@ class Asked:
         """Names the recordings that can't be gathered. They are left out only if that is asked for."""
         facts.bad = [(number, reason_for(self.names[number[0]], reason), may_differ) for number, reason, may_differ in sorted(facts.bad)]
         for number, reason, _ in facts.bad:
-            if number[0] not in self.named:
-                self.named.add(number[0])
-                say("%s%s%s" % (self.names[number[0]], " " if OF_NAME.match(reason) else ": ", reason))
+            say("%s%s%s" % (self.names[number[0]], " " if OF_NAME.match(reason) else ": ", reason))
         if facts.bad and not self.line.has("--skip-bad"):
             raise Refusal("%s of %d can't be gathered, so nothing is; --skip-bad leaves them out" % (counted(len(facts.bad), "recording"), len(self.names)))
 
