@@ -15,12 +15,14 @@ from ..base.words import class_of_lock, is_of_library, name_in, plain_key
 from ..binaries.symbols import Address
 from ..places.places import NO_PLACE, Places, classes_in
 from ..program.findings import Finding, Order
+from ..record.building import SOURCES
 from ..record.handlers import THREADS, Handler
 from .standing import Standing
 from .table import Place
 
 MOST_PLACES = 64  # of an order, each
 SOURCE = re.compile("(/.*):[0-9]+ ")  # of a place in words
+OF_RECORDER = {name for name in SOURCES if name.endswith(".so")}  # the libraries that a recorded program has besides its own
 NUMBERED = re.compile("~[0-9]+$")  # ends the name of a class that has namesakes: a run doesn't know which one it is
 
 Chain = Tuple[Address, ...]  # callers, the innermost first
@@ -154,8 +156,8 @@ def known_of(key: str, known: dict[str, Place]) -> Place | None:
 
 def add_place(found: set[Chain], places: Places, record: int) -> None:
     """Adds the callers of a record. Threads are held back by the innermost one, since the same code may be reached in another way; what has
-    happened is told by all of them."""
-    callers = places.callers(record) if len(found) < MOST_PLACES else []
+    happened is told by all of them, but for those of the recorder, by which a routine that runs once is called: no run has these."""
+    callers = [caller for caller in places.callers(record) if os.path.basename(caller.module) not in OF_RECORDER] if len(found) < MOST_PLACES else []
     if callers:
         found.add(tuple(callers))
 

@@ -147,6 +147,34 @@ IN_TURN(initialises_in_a, 1, 2, pthread_mutex_lock(&a); pthread_once(&control, i
 
 static void once(void) { RUN(initialises, initialises_in_a); }
 
+/* The same, in which already the recorded run stands still. */
+
+static pthread_barrier_t both;
+
+static void initialise_late(void) {
+    pthread_barrier_wait(&both);
+    pthread_mutex_lock(&a);
+    pthread_mutex_unlock(&a);
+}
+
+static void *initialises_late(void *with) {
+    pthread_once(&control, initialise_late);
+    return with;
+}
+
+static void *initialises_late_in_a(void *with) {
+    pthread_mutex_lock(&a);
+    pthread_barrier_wait(&both);
+    pthread_once(&control, initialise_late);
+    pthread_mutex_unlock(&a);
+    return with;
+}
+
+static void hung_once(void) {
+    pthread_barrier_init(&both, NULL, 2);
+    RUN(initialises_late, initialises_late_in_a);
+}
+
 /* ---- Semaphores that are locks. */
 
 static sem_t semaphores[2];
@@ -206,7 +234,7 @@ static void nested(void) { RUN(takes_ab, starts_another); }
 int main(int count, char **words) {
     static const struct row rows[] = {
         {"three", three}, {"late", late}, {"ordered", ordered}, {"polling", polling}, {"behind", behind}, {"relock", relock},
-        {"join", join}, {"spin", spin}, {"once", once}, {"semaphore", semaphore}, {"processes", processes}, {"nested", nested},
+        {"join", join}, {"spin", spin}, {"once", once}, {"hung-once", hung_once}, {"semaphore", semaphore}, {"processes", processes}, {"nested", nested},
     };
     return run_row(rows, sizeof rows / sizeof *rows, count > 1 ? words[1] : "");
 }
