@@ -23,18 +23,22 @@ count_stood=0
 count_others=0
 count_claims=0
 
-# A program that can stand still was provoked, and what it says is in `said`: it does, with its first finding: it_happens NAME
+# A program that can stand still was provoked, and what it says is in `said`: it does, with its first finding: it_happens NAME [WHAT STANDS STILL]
 it_happens() {
     count_real=$((count_real + 1))
-    ! grep -q '^lockdep: run [123]: finding 1 happened: the program stands still' said || count_stood=$((count_stood + 1))
+    ! grep -q "^lockdep: run [123]: finding 1 happened: ${2-the program stands still}\$" said || count_stood=$((count_stood + 1))
     same "$1: status" 1 "$status"
-    has "$1: it happens" ": finding 1 happened: the program stands still" said
+    has "$1: it happens" ": finding 1 happened: ${2-the program stands still}" said
 }
+
+# What stands still where one other thread can go on, which can't let those of the finding go on.
+# shellcheck disable=SC2034
+but_one="its threads stand still, and 1 other thread can go on"
 
 # A program that can't stand still for good was provoked.
 nothing_is_claimed() {
     count_others=$((count_others + 1))
-    ! grep -q ' happened: the program stands still' said || count_claims=$((count_claims + 1))
+    ! grep -q ' happened: ' said || count_claims=$((count_claims + 1))
     lacks "$1: no claim" "happened" said
 }
 
@@ -43,14 +47,15 @@ say_counts() {
     say_result
 }
 
-# A program stands still with its first finding, in which its threads wait at these places: happens NAME PLACES COMMAND... `trying` may have options.
+# A program stands still with its first finding, in which its threads wait at these places: happens NAME PLACES COMMAND... `trying` may have options,
+# and `still` what stands still if that isn't the program.
 happens() {
     name=$1
     places=$2
     shift 2
     # shellcheck disable=SC2086
     provoke -o "$name.traces" ${trying-} -- "$@"
-    it_happens "$name"
+    it_happens "$name" ${still:+"$still"}
     same "$name: where its threads wait" "$places" "$(waits)"
 }
 

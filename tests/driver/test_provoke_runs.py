@@ -22,9 +22,9 @@ from lockdep.provoke.reasons import KEPT_BACK, LATE, NOT_COME, Tried, turning
 from lockdep.provoke.recorded import Recorded, Stillness
 from lockdep.provoke.runs import Outcome
 from lockdep.provoke.standing import Doubt, doubts
-from lockdep.provoke.table import (BY_ANYBODY, BY_HOLDER, BY_OTHERS, IN_LOCK, INTERRUPTIBLE, MOST_ORDERS, MOST_POINTS, WAITS, WRITES, Counts, Held, Last, Modules, Table,
-                                   Thread, Timer)
-from lockdep.provoke.tries import Tries
+from lockdep.provoke.table import (BY_ANYBODY, BY_HOLDER, BY_OTHERS, FIRST_THREAD, IN_JOIN, IN_LOCK, INTERRUPTIBLE, MOST_CALLERS, MOST_ORDERS, MOST_POINTS, THREAD, WAITS,
+                                   WITHOUT_HANDLERS, WRITES, Counts, Held, Last, Modules, Table, Thread, Timer)
+from lockdep.provoke.tries import Tries, still_words
 from lockdep.provoke.ways import LONG_PAUSE, Ways
 
 HISTORY = """history,1
@@ -141,7 +141,9 @@ class TheWays(unittest.TestCase):
 
 
 def thread(number: int, awaited: int, held: int, releasing: int, call: int = IN_LOCK) -> Thread:
-    return Thread(os.getpid(), number, 1, WAITS, 1, WRITES, awaited, (), 0, 0, call, 0, (Held(held, WRITES, releasing, 0, ()),))
+    """As one is read that waits in this call, with the bits that are added to it."""
+    return Thread(os.getpid(), number, 1, WAITS, 1, WRITES, awaited, (), 0, 0, call & ~(INTERRUPTIBLE | WITHOUT_HANDLERS), 0,
+                  (Held(held, WRITES, releasing, 0, ()),), call & INTERRUPTIBLE > 0, call & WITHOUT_HANDLERS == 0)
 
 
 class WhatCameOfIt(unittest.TestCase):
@@ -186,7 +188,7 @@ class TheWatch(unittest.TestCase):
     def looks(self, seconds: float, count: int) -> list[bool]:
         """Whether two threads have stood for a second, at looks that are so many seconds apart."""
         clock = iter(range(1, count + 1))
-        with mock.patch.multiple(standing, is_asleep=lambda _: True, are_gone=lambda _: self.gone, doubts=lambda *_: [], described=lambda *_: ["stands"]), \
+        with mock.patch.multiple(standing, is_asleep=lambda _: True, are_gone=lambda _: self.gone, going_on=lambda *_: 0, doubts=lambda *_: [], described=lambda *_: ["stands"]), \
                 mock.patch.object(standing.time, "monotonic", lambda: seconds * next(clock)):
             return [self.watch.look() for _ in range(count)]
 
@@ -208,7 +210,7 @@ class TheWatch(unittest.TestCase):
             self.watch.table.threads.return_value = []
             return []
         self.looks(0.021, 47)
-        with mock.patch.multiple(standing, is_asleep=lambda _: True, are_gone=lambda _: False, doubts=looks_on), \
+        with mock.patch.multiple(standing, is_asleep=lambda _: True, are_gone=lambda _: False, going_on=lambda *_: 0, doubts=looks_on), \
                 mock.patch.object(standing.time, "monotonic", lambda: 0.021 * 48):
             self.assertFalse(self.watch.look())
 
@@ -230,21 +232,48 @@ class TheWatch(unittest.TestCase):
 
 class WhatCouldEndIt(unittest.TestCase):
     def found(self, releasing: int, going: int, call: int = IN_LOCK, timers: tuple[Timer, ...] = (), family: tuple[int, ...] = (), caught: int = 14) -> list[Doubt]:
+        """Of two threads, of which the second one runs no handlers. The signal that is caught has one."""
         table = mock.Mock(spec=Table)
         table.timers.return_value, table.last.return_value = timers, last()
-        with mock.patch.object(standing, "going_on", return_value=going), mock.patch.object(standing, "is_caught", lambda process, number: number == caught), \
-                mock.patch.multiple(standing, descendants=lambda process: list(family), first_of_run=lambda process: process, goes_on=lambda process, stuck: process > 0):
-            return doubts([thread(1, 20, 10, releasing, call), thread(2, 10, 20, releasing)], table)
+        with mock.patch.multiple(standing, heeded_by=lambda process, threads: 1 << caught >> 1 if threads else 0, tasks_of=lambda _: [2],
+                                 descendants=lambda process: list(family), first_of_run=lambda process: process, goes_on=lambda process, stuck: process > 0):
+            return doubts([thread(1, 20, 10, releasing, call), thread(2, 10, 20, releasing, WITHOUT_HANDLERS)], going, table)
 
     def test_other_threads(self) -> None:
         nobody = [Doubt("2 other threads can go on, though no thread may release what another one holds", False)]
+        interrupts = "1 other thread can go on, and may interrupt one of these"
         rows = ((0, 0, IN_LOCK, []), (0, 2, IN_LOCK, nobody), (BY_HOLDER, 2, IN_LOCK, []),
                 (BY_OTHERS, 1, IN_LOCK, [Doubt("1 other thread can go on, and any thread may release such a lock", False)]),
                 (BY_ANYBODY, 1, IN_LOCK, [Doubt("1 other thread can go on, and any thread may release such a lock", True)]),
-                (BY_HOLDER, 0, INTERRUPTIBLE, []),
-                (BY_HOLDER, 1, INTERRUPTIBLE, [Doubt("1 other thread can go on, and may interrupt one of these", True)]))
+                (BY_HOLDER, 0, INTERRUPTIBLE, []), (BY_HOLDER, 1, INTERRUPTIBLE, [Doubt(interrupts, True)]),
+                (BY_HOLDER, 1, INTERRUPTIBLE | IN_JOIN, [Doubt(interrupts, False)]))
         for releasing, going, call, wanted in rows:
-            self.assertEqual(self.found(releasing, going, call), wanted, (releasing, going, call))
+            self.assertEqual(self.found(releasing, going, call, caught=0), wanted, (releasing, going, call))
+
+    def test_a_handler_runs_in_a_thread_that_stands(self) -> None:
+        handler = [Doubt("1 other thread can go on, and may send a signal that has a handler: SIGUSR1", False)]
+        for call, going, caught, wanted in ((IN_LOCK, 1, 10, handler), (WITHOUT_HANDLERS, 1, 10, []), (IN_LOCK, 0, 10, []), (IN_LOCK, 1, 11, [])):
+            self.assertEqual(self.found(BY_HOLDER, going, call, caught=caught), wanted, (call, going, caught))
+
+    def test_a_handler_of_another_thread_may_release_what_not_only_the_holder_can(self) -> None:
+        handler = [Doubt("1 other process goes on, and may send a signal that has a handler: SIGUSR1", False)]
+        for releasing, wanted in ((BY_HOLDER, []), (BY_OTHERS, handler)):
+            self.assertEqual(self.found(releasing, 0, WITHOUT_HANDLERS, family=(7,), caught=10), wanted, releasing)
+
+    def test_what_is_read_of_a_call(self) -> None:
+        for added, wanted in ((0, (False, True)), (INTERRUPTIBLE, (True, True)), (WITHOUT_HANDLERS, (False, False))):
+            with tempfile.TemporaryDirectory() as folder:
+                table = Table(os.path.join(folder, "table"))
+                with open(table.path, "r+b") as file:
+                    file.seek(FIRST_THREAD)
+                    file.write(THREAD.pack(7, 8, 1, WAITS, 1, WRITES, 9, 0, 0, *[0] * MOST_CALLERS, 0, 0, 0, IN_JOIN | added, 0))
+                found = table.threads()
+            self.assertEqual([(each.call, each.is_interruptible, each.runs_handlers) for each in found], [(IN_JOIN, *wanted)])
+
+    def test_the_program_stands_still_if_nobody_else_can_go_on(self) -> None:
+        rows = ((0, "the program stands still"), (1, "its threads stand still, and 1 other thread can go on"), (2, "its threads stand still, and 2 other threads can go on"))
+        for going, wanted in rows:
+            self.assertEqual(still_words(Outcome(going=going)), wanted)
 
     def test_what_a_shell_has_left_is_of_the_run(self) -> None:
         """Not what another child of this command has started, as the load of a server."""

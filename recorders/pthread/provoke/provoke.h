@@ -26,7 +26,12 @@ enum mode { MODE_WRITE, MODE_READ, MODE_READ_BEHIND /* by a reader that waits be
 enum state { STATE_RUNS, STATE_STANDS, STATE_WAITS };
 
 /* What it waits in. A wait for a condition is one for the lock that it takes again; one for a thread's end is for that thread's `self`. */
-enum call { CALL_LOCK, CALL_SPIN, CALL_CONDITION, CALL_JOIN, CALL_ONCE, CALL_SEMAPHORE, CALL_INTERRUPTIBLE };
+enum call { CALL_LOCK, CALL_SPIN, CALL_CONDITION, CALL_JOIN, CALL_ONCE, CALL_SEMAPHORE };
+
+/* What the recorders of Python and Java add to that: another thread can end the wait by an interrupt; no handler of a signal can, since none runs in
+   such a thread. */
+#define CALL_INTERRUPTIBLE 0x10
+#define CALL_WITHOUT_HANDLERS 0x20
 
 /* Who may release a lock besides its holder: others by mistake; nobody; anybody, as a rule; or others, if need be. */
 enum releasing { RELEASED_BY_MISTAKE, RELEASED_BY_HOLDER, RELEASED_BY_ANYBODY, RELEASED_BY_OTHERS };

@@ -28,7 +28,7 @@ from .threads import class_of
 MOST_CHANGES = 0xffffffff
 RUNS, STANDS, WAITS = 0, 1, 2
 BY_HOLDER, BY_ANYBODY, BY_OTHERS = 1, 2, 3  # who may release a lock
-IN_JOIN = 3  # what a thread waits in
+IN_JOIN, WITHOUT_HANDLERS = 3, 0x20  # what a thread waits in, and whether no handler of a signal can end that
 
 # The same limits as in provoke/threads.c: milliseconds of all pauses of a process, and the pauses of one length at an order.
 MOST_PAUSED = 10000
@@ -108,8 +108,11 @@ class Thread:
     def packed(self):
         held, awaited = self.held[:MOST_HELD], self.awaited.numbered()
         return THREAD.pack(self.process, self.number, self.changes, self.state, self.order, 0, awaited, len(self.stack), len(held),
-                           *numbers_of(self.stack, MOST_CALLERS), self.goes, self.name, 0, IN_JOIN if self.awaited.is_life else 0, 0) + b"".join(
-                               [each.packed() for each in held])
+                           *numbers_of(self.stack, MOST_CALLERS), self.goes, self.name, 0, self.waits_in(), 0) + b"".join([each.packed() for each in held])
+
+    def waits_in(self):
+        """What it waits in. Handlers of signals run in the main thread alone, whose number is its process's."""
+        return (IN_JOIN if self.awaited.is_life else 0) | (WITHOUT_HANDLERS if self.number != self.process else 0)
 
     def begin(self, state, lock, stack):
         """It stands or waits from here on."""

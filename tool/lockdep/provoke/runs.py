@@ -22,13 +22,14 @@ PR_SET_CHILD_SUBREAPER = 36
 
 @dataclass
 class Outcome:
-    """How a run ended: with the command's status, or standing still, for how many seconds, what could end that, and of which builds the process is, or at
-    the limit of its time, and which threads waited then. Also for how many seconds threads stood that went on."""
+    """How a run ended: with the command's status, or standing still, for how many seconds, what could end that, how many other threads could go on, and of
+    which builds the process is, or at the limit of its time, and which threads waited then. Also for how many seconds threads stood that went on."""
 
     status: int | None = None
     process: int = 0
     standing: list[Standing] | None = None
     doubts: list[Doubt] = field(default_factory=list)
+    going: int = 0
     stood: float = 0.0
     builds: tuple[str, ...] = ()
     waiting: list[Waiting] | None = None
@@ -58,8 +59,8 @@ class Run:
         watch, end = Watch(self.table, self.holder.numbers, sure), time.monotonic() + limit
         while time.monotonic() < end or watch.still:
             if watch.look():
-                return Outcome(process=watch.cycle[0].process, standing=watch.standing, doubts=watch.doubts, stood=watch.stood,
-                               builds=builds_of(watch.cycle[0], watch.standing))
+                return Outcome(process=watch.cycle[0].process, standing=watch.standing, doubts=watch.doubts, going=watch.going,
+                               stood=watch.stood, builds=builds_of(watch.cycle[0], watch.standing))
             if self.child.poll() is not None and not self.is_something_left():
                 return self.ended(watch)
             if not watch.cycle:  # (or the program may be ended that stands still)

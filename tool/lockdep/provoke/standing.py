@@ -12,8 +12,8 @@ from ..binaries.elf import build_words
 from ..binaries.symbols import Address
 from .holders import LIBRARY
 from .system import ENDED, children_of, descendants, is_endless, link_of, parent_of, session_of, sleeps_of, state_of, tasks_of, text_of_file
-from .table import (BY_ANYBODY, BY_HOLDER, BY_OTHERS, IN_CONDITION, IN_JOIN, IN_ONCE, IN_SEMAPHORE, IN_SPIN, INTERRUPTIBLE, READS_BEHIND, RUNS_FUNCTION, SHARED_LOCK,
-                    WAITS, WRITES, Held, Modules, Place, Table, Thread, cycle_in)
+from .table import (BY_ANYBODY, BY_HOLDER, BY_OTHERS, IN_CONDITION, IN_JOIN, IN_ONCE, IN_SEMAPHORE, IN_SPIN, READS_BEHIND, RUNS_FUNCTION, SHARED_LOCK, WAITS, WRITES,
+                    Held, Modules, Place, Table, Thread, cycle_in)
 
 ASLEEP = "S"  # the state of a thread, as the kernel has it
 RUNNING = "R"
@@ -23,10 +23,10 @@ LONGEST_LOOK = 2 * LOOK  # that counts: where the machine stood meanwhile, what 
 LOOKS_STILL = 0.2  # seconds after which it is said that threads stood, if they go on later
 WAITS_IN = {IN_CONDITION: "to be woken", IN_JOIN: "for a thread's end", IN_ONCE: "for what runs once", IN_SEMAPHORE: "for a semaphore", IN_SPIN: "for a spin lock"}
 OF_THE_SYSTEM = ("libc.so", "libpthread.so", "ld-linux")  # modules whose functions begin each thread
+HANDLED = "may send a signal that has a handler: %s"
 CAUGHT, BLOCKED = b"SigCgt:", b"SigBlk:"  # begin lines of what the system says of a process, and of a thread
 OF_FAULTS = {signal.SIGSEGV, signal.SIGBUS, signal.SIGFPE, signal.SIGILL, signal.SIGTRAP, signal.SIGABRT, signal.SIGSYS}
 FIRST_OF_SYSTEM = 32  # the first signal of the C library's own
-OF_JAVA = "/libjvm.so"
 
 
 @dataclass(frozen=True)
@@ -65,6 +65,7 @@ class Watch:
         self.cycle: list[Thread] = []
         self.standing: list[Standing] = []
         self.doubts: list[Doubt] = []  # what could end it, when they had stood long enough
+        self.going = 0  # how many other threads could go on then
 
     def look(self) -> bool:
         """Whether threads of a cycle in which nothing has changed, and which all are asleep, have stood long enough: twice as long, if something is
@@ -83,7 +84,8 @@ class Watch:
             self.standing = described(cycle, self.table, self.numbers)
         if self.stood < self.sure:
             return False
-        self.doubts = doubts(cycle, self.table)
+        self.going = going_on(cycle, self.table)
+        self.doubts = doubts(cycle, self.going, self.table)
         return (not self.doubts or self.stood >= 2 * self.sure) and self.is_as_seen()
 
     def is_as_seen(self) -> bool:
@@ -116,26 +118,26 @@ def is_asleep(thread: Thread) -> bool:
 
 @dataclass(frozen=True)
 class Doubt:
-    """What could end a standstill, in words, and whether programs usually end one so: others only by a thread that releases what another one holds."""
+    """What could end a standstill, in words, and whether programs usually end one so: others only by a thread that releases what another one holds.
+    What ends the whole program is none, since it lets no thread of the cycle go on."""
 
     words: str
     is_usual: bool
 
 
-def doubts(cycle: list[Thread], table: Table) -> list[Doubt]:
-    return timers_armed(cycle, table) + others(cycle, table) + other_processes(cycle)
+def doubts(cycle: list[Thread], going: int, table: Table) -> list[Doubt]:
+    """What could end it, where so many other threads can go on."""
+    return timers_armed(cycle, table) + others(cycle, going, table) + other_processes(cycle)
 
 
 def other_processes(cycle: list[Thread]) -> list[Doubt]:
-    """Processes of the run that go on beside those of the cycle: one may send a signal that has a handler, which may jump out of a wait or raise an error
-    there, or be awaited by what interrupts one."""
-    processes, is_interruptible = {thread.process for thread in cycle}, any(thread.call == INTERRUPTIBLE for thread in cycle)
-    caught = dict.fromkeys(name for process in sorted(processes) for name in handled_in(process))
+    """Processes of the run that go on beside those of the cycle: one may send a signal that has a handler, or be awaited by what interrupts a wait."""
+    processes, is_interruptible, caught = {thread.process for thread in cycle}, any(thread.is_interruptible for thread in cycle), handled_in(cycle)
     family = {each for process in processes for first in [first_of_run(process)] for each in [first, *descendants(first), *left_by(first)]} - processes
     going = len(going_beside(processes, family)) if caught or is_interruptible else 0
     if not going:
         return []
-    may = "may be awaited by what interrupts one of these" if is_interruptible else "may send a signal that has a handler: %s" % ", ".join(caught)
+    may = "may be awaited by what interrupts one of these" if is_interruptible else HANDLED % ", ".join(caught)
     return [Doubt("%s, and %s" % (counted(going, "other process goes on", "other processes go on"), may), False)]
 
 
@@ -166,11 +168,14 @@ def goes_on(process: int, standing: set[int]) -> bool:
     return any(state_of(process, task) not in ENDED and not is_endless(process, task, standing) for task in tasks_of(process))
 
 
-def handled_in(process: int) -> list[str]:
-    """The signals that a process has handlers for, but for those of faults, and those of a virtual machine of Java, which end no wait."""
-    if OF_JAVA in text_of_file("/proc/%d/maps" % process):
-        return []
-    return [name_of_signal(number) for number in range(1, FIRST_OF_SYSTEM) if number not in OF_FAULTS and is_caught(process, number)]
+def handled_in(cycle: list[Thread]) -> list[str]:
+    """The signals of which a handler could end it, but for those of faults: one that runs in a thread of the cycle may jump out of the wait or raise an
+    error there, and in any other thread, one may release a lock that not only its holder can."""
+    heeded = 0
+    for process in {thread.process for thread in cycle}:
+        own = [thread.thread for thread in cycle if thread.process == process and thread.runs_handlers]
+        heeded |= heeded_by(process, own if is_by_holders(cycle) else tasks_of(process))
+    return [name_of_signal(number) for number in range(1, FIRST_OF_SYSTEM) if heeded >> number - 1 & 1 and number not in OF_FAULTS]
 
 
 def timers_armed(cycle: list[Thread], table: Table) -> list[Doubt]:
@@ -181,17 +186,29 @@ def timers_armed(cycle: list[Thread], table: Table) -> list[Doubt]:
     return [Doubt(words, True) for words in dict.fromkeys(said)]
 
 
-def others(cycle: list[Thread], table: Table) -> list[Doubt]:
-    """Threads of the same processes that aren't in the cycle, and go on, or can: one of them could release a lock of the cycle, unless that refuses to be
-    released by anybody but its holder, or interrupt a wait that may be."""
-    who, is_interruptible = {each.releasing for each in awaited_in(cycle)}, any(thread.call == INTERRUPTIBLE for thread in cycle)
-    going = going_on(cycle, table) if who != {BY_HOLDER} or is_interruptible else 0
+def others(cycle: list[Thread], going: int, table: Table) -> list[Doubt]:
+    """Threads of the same processes that aren't in the cycle, and go on, or can: one of them could interrupt a wait that may be, release a lock of the
+    cycle, unless that refuses to be released by anybody but its holder, or else send a signal that has a handler. Few joins are interrupted."""
     if not going:
         return []
-    is_usual = BY_ANYBODY in who or is_interruptible or table.last().is_handed_over
-    may = "and may interrupt one of these" if is_interruptible else "and any thread may release such a lock" if is_usual or BY_OTHERS in who else \
-        "though no thread may release what another one holds"
-    return [Doubt("%s, %s" % (counted(going, "other thread can go on", "other threads can go on"), may), is_usual)]
+    may = "%s, " % going_words(going)
+    if any(thread.is_interruptible for thread in cycle):
+        return [Doubt(may + "and may interrupt one of these", any(thread.is_interruptible and thread.call != IN_JOIN for thread in cycle))]
+    if is_by_holders(cycle):
+        return [Doubt(may + "and " + HANDLED % ", ".join(caught), False) for caught in [handled_in(cycle)] if caught]
+    who = {each.releasing for each in awaited_in(cycle)}
+    is_usual = BY_ANYBODY in who or table.last().is_handed_over
+    releases = "and any thread may release such a lock" if is_usual or BY_OTHERS in who else "though no thread may release what another one holds"
+    return [Doubt(may + releases, is_usual)]
+
+
+def going_words(going: int) -> str:
+    return counted(going, "other thread can go on", "other threads can go on")
+
+
+def is_by_holders(cycle: list[Thread]) -> bool:
+    """Whether nobody can release a lock that is waited for but its holder."""
+    return all(each.releasing == BY_HOLDER for each in awaited_in(cycle))
 
 
 def awaited_in(cycle: list[Thread]) -> list[Held]:
@@ -225,9 +242,15 @@ def shared_memory(process: int, but: str) -> set[tuple[str, str]]:
 
 def is_caught(process: int, number: int) -> bool:
     """Whether a signal has a handler in a process, and a thread that doesn't block it."""
-    bit = 1 << number - 1 if number > 0 else 0
-    return bool(mask_in("/proc/%d/status" % process, CAUGHT) & bit) and any(
-        not mask_in("/proc/%d/task/%d/status" % (process, task), BLOCKED) & bit for task in tasks_of(process))
+    return number > 0 and heeded_by(process, tasks_of(process)) >> number - 1 & 1 > 0
+
+
+def heeded_by(process: int, threads: list[int]) -> int:
+    """The signals that have handlers in a process, a bit for each, and that one of these threads doesn't block."""
+    caught, blocked = mask_in("/proc/%d/status" % process, CAUGHT), -1
+    for thread in threads:
+        blocked &= mask_in("/proc/%d/task/%d/status" % (process, thread), BLOCKED)
+    return caught & ~blocked
 
 
 def mask_in(path: str, name: bytes) -> int:

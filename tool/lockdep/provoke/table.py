@@ -31,7 +31,8 @@ BITS_OF_CLASS = 28  # of a lock that isn't known by its address
 SHARED_LOCK = 1 << 63  # a bit of the number of a lock that several processes share
 STANDS, WAITS = 1, 2
 WRITES, READS_BEHIND = 0, 2  # the latter also waits for readers, if a writer that waits for them is before it
-IN_LOCK, IN_SPIN, IN_CONDITION, IN_JOIN, IN_ONCE, IN_SEMAPHORE, INTERRUPTIBLE = range(7)  # what a thread waits in
+IN_LOCK, IN_SPIN, IN_CONDITION, IN_JOIN, IN_ONCE, IN_SEMAPHORE = range(6)  # what a thread waits in
+INTERRUPTIBLE, WITHOUT_HANDLERS = 0x10, 0x20  # bits besides that: an interrupt ends the wait; no handler of a signal runs in the thread
 BY_HOLDER, BY_ANYBODY, BY_OTHERS = 1, 2, 3  # who may release a lock: its holder alone, anybody, as a rule, or others, if need be
 ASKED, TAKEN = 1, 2  # how far a point of the schedule was come to
 NANOSECONDS = 1e9  # of a second
@@ -62,7 +63,8 @@ class Held:
 @dataclass(frozen=True)
 class Thread:
     """A thread as the file has it. `order` is the planned one that it stood at, from 1 on, or 0; `changes` is another number after each change;
-    `name` is where the program's language has its name, or 0."""
+    `name` is where the program's language has its name, or 0; `is_interruptible` says whether another thread can end its wait by an interrupt, and
+    `runs_handlers` whether a signal's handler may run in it."""
 
     process: int
     thread: int
@@ -77,6 +79,8 @@ class Thread:
     call: int
     point: int
     held: tuple[Held, ...]
+    is_interruptible: bool = False
+    runs_handlers: bool = True
 
     def is_in_the_way(self, other: Thread, behind: set[tuple[int, int]]) -> bool:
         """Whether it holds what the other one waits for, or is that itself. Of each process those locks are known which writers wait for."""
@@ -150,8 +154,9 @@ class Table:
         places = [start + THREAD.size + n * HELD.size for n in range(min(held_count, MOST_HELD))]
         held = tuple(self.held_at(place) for place in places)
         name, itself, call, point = rest[-4:]
-        return Thread(process, thread, changes, state, order, mode, awaited, tuple(rest[:min(depth, MOST_CALLERS)]), name, itself, call, point,
-                      tuple(each for each in held if each.lock))
+        return Thread(process, thread, changes, state, order, mode, awaited, tuple(rest[:min(depth, MOST_CALLERS)]), name, itself,
+                      call & ~(INTERRUPTIBLE | WITHOUT_HANDLERS), point, tuple(each for each in held if each.lock), call & INTERRUPTIBLE > 0,
+                      call & WITHOUT_HANDLERS == 0)
 
     def held_at(self, start: int) -> Held:
         lock, mode, releasing, _, depth, orders, *callers = HELD.unpack_from(self.raw, start)

@@ -26,7 +26,7 @@ from .plan import PlannedOrder, foreign_words, is_cycle_of, known_places, plan_o
 from .recorded import Recorded
 from .reasons import Tried, turning, turning_words
 from .runs import Outcome, Run, adopt_orphans
-from .standing import DEFAULT_SURE, Standing, shell_status, status_words
+from .standing import DEFAULT_SURE, Standing, going_words, shell_status, status_words
 from .system import text_of_file
 from .table import MOST_ORDERS, Place, Table
 from .ways import Way, Ways, pauses
@@ -54,6 +54,11 @@ def has_input() -> bool:
     except OSError:
         return False
     return stat.S_ISFIFO(mode) or stat.S_ISREG(mode)
+
+
+def still_words(outcome: Outcome) -> str:
+    """What stands still: the program, unless other threads can go on."""
+    return "its threads stand still, and " + going_words(outcome.going) if outcome.going else "the program stands still"
 
 
 def is_watched(finding: Finding) -> bool:
@@ -242,7 +247,7 @@ class Tries:
             return found == 0
         what = "finding %d" % found if found else "a cycle that is none of these findings"
         doubts = tuple(doubt.words for doubt in outcome.doubts)
-        say("run %d: %s happened: the program stands still" % (count, what) if is_sure else
+        say("run %d: %s happened: %s" % (count, what, still_words(outcome)) if is_sure else
             "run %d: %s stood still for %.1f s; %s" % (count, what, outcome.stood, "; ".join(doubts)))
         plan, course = (self.plans[found], self.courses.get(found)) if found else ([], None)
         happened = Happened(count, stood(standing, plan, course), 0.0 if is_sure else round(outcome.stood, 1), doubts, self.sent_words(found, sent))

@@ -66,11 +66,25 @@ static void *watches(void *with) {
 
 static void watched(void) { RUN(takes_ab, takes_ba, watches); }
 
+/* Mutexes that only their holders can release, so that a thread that ends the program later is no way out of the wait. */
+static void release_by_holders(void) { a = b = (pthread_mutex_t)PTHREAD_ERRORCHECK_MUTEX_INITIALIZER_NP; }
+
+static void *watches_on(void *with) {
+    look_on(LATE, give_up);
+    return with;
+}
+
+static void watched_on(void) {
+    release_by_holders();
+    RUN(takes_ab, takes_ba, watches_on);
+}
+
 /* ---- A handler that jumps out of the wait. */
 
 #define SECONDS 600 /* which never pass */
 
 static sigjmp_buf out;
+static pthread_t jumping;
 
 static void jump(int number) {
     (void)number;
@@ -78,11 +92,13 @@ static void jump(int number) {
 }
 
 static void *jumps_out(void *with) {
+    jumping = pthread_self();
     await_turn(1, 2);
     if (sigsetjmp(out, 1) == 0)
         take(&b, &a);
     else
         pthread_mutex_unlock(&b);
+    over++;
     end_turn(1);
     return with;
 }
@@ -94,20 +110,39 @@ static void alarmed(void) {
     alarm(0);
 }
 
-/* ---- Another process, which sends the signal. */
+static void send(void) { pthread_kill(jumping, SIGUSR1); }
 
-static void sent(void) {
+static void *sends(void *with) {
+    look_on(LATE, send);
+    return with;
+}
+
+static void sent_by_thread(void) {
+    release_by_holders();
+    signal(SIGUSR1, jump);
+    RUN(takes_ab, jumps_out, sends);
+}
+
+/* ---- Another process, which sends a signal. */
+
+static void run_beside(int number, routine *second) {
     pid_t other = fork();
     if (other == 0) {
         sleep(SECONDS);
-        kill(getppid(), SIGUSR1);
+        kill(getppid(), number);
         _exit(0);
     }
-    signal(SIGUSR1, jump);
-    RUN(takes_ab, jumps_out);
+    RUN(takes_ab, second);
     kill(other, SIGKILL);
     waitpid(other, NULL, 0);
 }
+
+static void sent(void) {
+    signal(SIGUSR1, jump);
+    run_beside(SIGUSR1, jumps_out);
+}
+
+static void killed(void) { run_beside(SIGKILL, takes_ba); }
 
 /* ---- A timer that runs a function. */
 
@@ -126,6 +161,7 @@ static void timed(void) {
 }
 
 int main(int count, char **words) {
-    static const struct row rows[] = {{"early", early}, {"late", late}, {"watched", watched}, {"alarmed", alarmed}, {"sent", sent}, {"timed", timed}};
+    static const struct row rows[] = {{"early", early}, {"late", late}, {"watched", watched}, {"watched-on", watched_on},
+                                      {"alarmed", alarmed}, {"sent-by-thread", sent_by_thread}, {"sent", sent}, {"killed", killed}, {"timed", timed}};
     return run_row(rows, sizeof rows / sizeof *rows, count > 1 ? words[1] : "");
 }

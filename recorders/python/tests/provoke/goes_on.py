@@ -1,4 +1,6 @@
-"""Threads that wait for one another, until something ends that: goes_on.py WAY"""
+"""Threads that wait for one another, until something ends that, or the whole program: goes_on.py WAY"""
+import _thread
+import os
 import signal
 import sys
 import threading
@@ -8,7 +10,8 @@ from pairs import run_apart, wait_until
 
 LOOKS, LOOK, SECONDS = 1200, 0.05, 600  # which are never over: the run is judged long before
 first, second = threading.Lock(), threading.Lock()
-over = []
+outer_lock, inner_lock = threading.RLock(), threading.RLock()  # which only their holders release
+over, holding = [], []
 
 
 def take(outer, inner):
@@ -17,15 +20,36 @@ def take(outer, inner):
     over.append(outer)
 
 
-def looks_on():
-    """A third thread releases what the second one holds, if it has seen both locks held so many times, as they are while both stand still."""
+def take_own(outer, inner):
+    with outer:
+        holding.append(outer)
+        with inner:
+            holding.remove(outer)
+    over.append(outer)
+
+
+def looks_on(end):
+    """A third thread does something about it, if it has seen both locks held so many times, as they are while both stand still."""
     seen = 0
     while seen < LOOKS:
         if len(over) == 2:
             return
         time.sleep(LOOK)
-        seen += first.locked() and second.locked()
-    second.release()
+        seen += (first.locked() and second.locked()) or len(holding) == 2
+    end()
+
+
+def interrupted():
+    """The main thread waits, until another one has it interrupted, as by Ctrl-C."""
+    signal.signal(signal.SIGINT, signal.default_int_handler)
+    other = threading.Thread(target=lambda: (wait_until(lambda: over, 0.1), take_own(inner_lock, outer_lock)))
+    other.start()
+    try:
+        take_own(outer_lock, inner_lock)
+    except KeyboardInterrupt:
+        print("interrupted")
+    other.join()
+    print("done")
 
 
 def give_up(number, frame):
@@ -47,9 +71,14 @@ def alarmed():
     print("done")
 
 
+WAYS = {"release": second.release, "end": lambda: os._exit(7), "interrupt": _thread.interrupt_main}
+if sys.argv[1] in WAYS:
+    threading.Thread(target=looks_on, args=(WAYS[sys.argv[1]],)).start()
 if sys.argv[1] == "release":
-    watching = threading.Thread(target=looks_on)
-    watching.start()
     run_apart(lambda: take(first, second), lambda: take(second, first))
+elif sys.argv[1] == "end":
+    run_apart(lambda: take_own(outer_lock, inner_lock), lambda: take_own(inner_lock, outer_lock))
+elif sys.argv[1] == "interrupt":
+    interrupted()
 else:
     alarmed()

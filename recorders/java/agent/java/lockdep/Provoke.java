@@ -58,9 +58,11 @@ public final class Provoke {
     private static final int BITS_OF_CLASS = 28;
     /** The mode of a reader who waits behind a writer that waits, as in the JDK all do. */
     private static final int READS_BEHIND = 2;
-    /** What a thread waits in, and who may release a lock. */
+    /** What a thread waits in: an interrupt may end that, and no handler of a signal, which the machine runs in threads of its own. */
     private static final int IN_JOIN = 3;
-    private static final int INTERRUPTIBLE = 6;
+    private static final int INTERRUPTIBLE = 0x10;
+    private static final int WITHOUT_HANDLERS = 0x20;
+    /** Who may release a lock. */
     private static final int BY_HOLDER = 1;
     private static final int BY_OTHERS = 3;
 
@@ -309,7 +311,8 @@ public final class Provoke {
         table.putInt(place + 36, stand.depth + (isLifeShown ? 1 : 0));
         for (int at = 0; at < stand.stack.length; at++) table.putLong(place + 40 + 8 * at, stand.stack[at]);
         table.putInt(place + 172, (int) stand.name);
-        table.putInt(place + 184, stand.isInterruptible ? INTERRUPTIBLE : stand.awaited.isLife() ? IN_JOIN : 0);
+        int join = stand.awaited.isLife() ? IN_JOIN | INTERRUPTIBLE : 0;
+        table.putInt(place + 184, WITHOUT_HANDLERS | join | (stand.isInterruptible ? INTERRUPTIBLE : 0));
         for (int at = 0; at < stand.depth; at++) {
             Held held = stand.held[at];
             write(held.lock, held.isReader(), held.stack, place + OF_THREAD + at * OF_HELD);

@@ -131,7 +131,10 @@ final class Task extends Trace {
             return;
         }
         Known lock = monitor(object);
-        if (isAsked && stand != null) Provoke.ask(stand, lock, Modes.WRITE, held, depth, site, false);
+        if (isAsked && stand != null) {
+            stand.isInterruptible = false;
+            Provoke.ask(stand, lock, Modes.WRITE, held, depth, site, false);
+        }
         take(lock, object, Modes.WRITE, site);
     }
 
