@@ -67,6 +67,7 @@ serve() {
 come() { until [ "$(wc -c <"$1")" -ge "$2" ]; do sleep 0.05; done; }
 sent=0
 for request in r w r w r w; do
+    echo "request $request"
     printf $request >requests
     sent=$((sent + 1))
     come answered $sent

@@ -10,7 +10,9 @@ import unittest
 from unittest import mock
 
 from lockdep.provoke import load as provoke_load, recorded as provoke_recorded
+from lockdep.provoke.ending import ENDING
 from lockdep.provoke.holders import Preloaded
+from lockdep.provoke.provoke import Ended, heed_signals
 
 DEAF = "import os, signal, sys, time; signal.signal(signal.SIGTERM, signal.SIG_IGN); open(os.path.join(sys.argv[1], '%d-0.arena' % os.getpid()), 'w'); time.sleep(99)"
 
@@ -29,6 +31,23 @@ class AProgramThatDoesntEnd(unittest.TestCase):
             holder.takes_locks = lambda path: path.endswith(".arena")
             status = provoke_recorded.end_of_recording(self.recorder(folder), folder, "true", holder)
             self.assertEqual(status, signal.SIGKILL)
+
+    def test_a_signal_that_comes_as_the_load_starts_ends_that_too(self) -> None:
+        started, really = [], subprocess.Popen
+
+        def starts(*words: object, **options: object) -> subprocess.Popen:
+            started.append(really(*words, **options))
+            os.kill(os.getpid(), signal.SIGTERM)
+            return started[-1]
+
+        for number in ENDING:
+            self.addCleanup(signal.signal, number, signal.getsignal(number))
+        heed_signals()
+        load = provoke_load.Load("sleep 600", 2)
+        with mock.patch("lockdep.provoke.load.subprocess.Popen", starts), self.assertRaises(Ended):
+            load.step(True, os.getpid())
+        load.end()
+        self.assertEqual(started[0].returncode, -signal.SIGKILL)
 
     def test_descendants_are_children_and_what_they_started(self) -> None:
         child = subprocess.Popen([sys.executable, "-c", "import subprocess, sys; subprocess.Popen(['sleep', '99']); print(flush=True); sys.stdin.read()"],

@@ -5,6 +5,7 @@ import dataclasses
 import os
 import signal
 import subprocess
+import sys
 import tempfile
 import time
 import unittest
@@ -16,14 +17,16 @@ from lockdep.binaries.symbols import Address
 from lockdep.program.events import Event, Held as Holds
 from lockdep.program.schedules import POSSIBLE, Place, Ring, Waiting
 from lockdep.program.verdicts import Judgement, Reason, Verdict
-from lockdep.provoke import course as provoke_course, recorded, standing, system
+from lockdep.provoke import course as provoke_course, recorded, runs, standing, system
 from lockdep.provoke.course import History, course_in
+from lockdep.provoke.ending import ENDING
+from lockdep.provoke.provoke import Ended, heed_signals
 from lockdep.provoke.reasons import KEPT_BACK, LATE, NOT_COME, Tried, turning
 from lockdep.provoke.recorded import Recorded, Stillness
 from lockdep.provoke.runs import Outcome
 from lockdep.provoke.standing import Doubt, doubts
-from lockdep.provoke.table import (BY_ANYBODY, BY_HOLDER, BY_OTHERS, FIRST_THREAD, IN_JOIN, IN_LOCK, INTERRUPTIBLE, MOST_CALLERS, MOST_ORDERS, MOST_POINTS, THREAD, WAITS,
-                                   WITHOUT_HANDLERS, WRITES, Counts, Held, Last, Modules, Table, Thread, Timer)
+from lockdep.provoke.table import (BY_ANYBODY, BY_HOLDER, BY_OTHERS, FIRST_THREAD, IN_JOIN, IN_LOCK, INTERRUPTIBLE, MOST_CALLERS, MOST_ORDERS, MOST_POINTS,
+                                   THREAD, WAITS, WITHOUT_HANDLERS, WRITES, Counts, Held, Last, Modules, Table, Thread, Timer)
 from lockdep.provoke.tries import Tries, still_words
 from lockdep.provoke.ways import LONG_PAUSE, Ways
 
@@ -146,6 +149,85 @@ def thread(number: int, awaited: int, held: int, releasing: int, call: int = IN_
                   (Held(held, WRITES, releasing, 0, ()),), call & INTERRUPTIBLE > 0, call & WITHOUT_HANDLERS == 0)
 
 
+class TheEndOfARun(unittest.TestCase):
+    def setUp(self) -> None:
+        self.started: list[subprocess.Popen] = []
+        self.addCleanup(lambda: [child.kill() or child.wait() for child in self.started])
+        for number in (*ENDING, signal.SIGABRT):
+            self.addCleanup(signal.signal, number, signal.getsignal(number))
+
+    def sleeper(self, *words: str) -> subprocess.Popen:
+        """A process that has done this, and sleeps."""
+        python = [sys.executable, "-c", "; ".join(["import signal, time", *words, "print(flush=True)", "time.sleep(600)"])]
+        self.started.append(subprocess.Popen(python, stdout=subprocess.PIPE))
+        self.addCleanup(self.started[-1].stdout.close)
+        self.started[-1].stdout.readline()
+        return self.started[-1]
+
+    def tries(self, folder: str) -> mock.Mock:
+        holder = mock.Mock(command=lambda words: words, environment=lambda _: dict(os.environ))
+        return mock.Mock(spec=Tries, room=folder, command=["sleep", "600"], holder=holder, given="", beside="", dumps=False, is_kept=False, limit=600, sure=600,
+                         write_plan=lambda *_: "")
+
+    def test_a_signal_that_comes_as_the_command_starts_ends_that_too(self) -> None:
+        """It has no signals blocked then but those that were before."""
+        heeds, really, blocked = mock.Mock(), subprocess.Popen, []
+
+        def starts(*words: object, **options: object) -> subprocess.Popen:
+            self.started.append(really(*words, **options))
+            blocked.append(standing.mask_in("/proc/%d/status" % self.started[-1].pid, standing.BLOCKED))
+            os.kill(os.getpid(), signal.SIGTERM)
+            heeds()  # (where a signal that isn't held back would have come before)
+            return self.started[-1]
+
+        before = standing.mask_in("/proc/self/status", standing.BLOCKED)
+        heed_signals()
+        with tempfile.TemporaryDirectory() as folder, mock.patch("lockdep.provoke.runs.subprocess.Popen", starts):
+            table = Table(os.path.join(folder, "table"))
+            with self.assertRaises(Ended):
+                Tries.run(self.tries(folder), 1, 1, mock.Mock(pause=0), table)
+        self.assertEqual(self.started[0].poll(), -signal.SIGKILL)
+        self.assertEqual((heeds.call_count, blocked, standing.mask_in("/proc/self/status", standing.BLOCKED)), (1, [before], before))
+
+    def test_another_signal_leaves_nothing_running(self) -> None:
+        heed_signals()
+        with self.assertRaises(Ended):
+            os.kill(os.getpid(), signal.SIGTERM)
+        os.kill(os.getpid(), signal.SIGINT)
+
+    def test_a_core_dump_is_waited_for_however_long_it_takes(self) -> None:
+        """A handler's wait isn't. (The process is killed at the last look, and has ended at the next one.)"""
+        child = self.sleeper("signal.signal(signal.SIGABRT, lambda *_: None)")
+        for dumping in (3, 0):
+            looks = iter([True] * dumping)
+            with mock.patch.multiple(runs, GRACE=0.01, is_dumping=lambda _: next(looks, False)):
+                runs.wait_for_end(child.pid)
+            self.assertEqual((list(looks), child.poll()), ([], None))
+
+    def test_a_process_ends_by_sigabrt_unless_it_does_something_about_it(self) -> None:
+        rows = (("pass", True), ("signal.signal(signal.SIGABRT, lambda *_: None)", False), ("signal.signal(signal.SIGABRT, signal.SIG_IGN)", False),
+                ("signal.pthread_sigmask(signal.SIG_BLOCK, [signal.SIGABRT])", False))
+        for words, wanted in rows:
+            child = self.sleeper(words)
+            self.assertEqual(standing.is_ended_by(child.pid, signal.SIGABRT), wanted, words)
+            child.send_signal(signal.SIGSTOP)
+            while system.state_of(child.pid, child.pid) not in system.STOPPED:
+                time.sleep(0.001)
+            self.assertFalse(standing.is_ended_by(child.pid, signal.SIGABRT), words)
+
+    def test_a_process_without_a_handler_is_waited_for(self) -> None:
+        """Also where it is slow to end. Its first thread may have ended."""
+        ends = "import ctypes, threading; threading.Thread(target=time.sleep, args=(600,)).start(); print(flush=True); ctypes.CDLL(None).pthread_exit(None)"
+        for child, state in ((self.sleeper(), standing.ASLEEP), (self.sleeper(ends), "Z")):
+            while system.state_of(child.pid, child.pid) != state:
+                time.sleep(0.001)
+            with mock.patch.object(runs, "GRACE", -1):
+                self.assertTrue(system.is_there(child.pid))
+                child.send_signal(signal.SIGABRT)
+                runs.wait_for_end(child.pid)
+                self.assertFalse(system.is_there(child.pid))
+
+
 class WhatCameOfIt(unittest.TestCase):
     def test_orders_of_one_place_are_come_to_once_each(self) -> None:
         for lines, reached, once in ((("x", "x"), 2, {1}), (("x", "x"), 3, set()), (("x", "y"), 2, set()), (("x", "y"), 1, {1})):
@@ -188,7 +270,8 @@ class TheWatch(unittest.TestCase):
     def looks(self, seconds: float, count: int) -> list[bool]:
         """Whether two threads have stood for a second, at looks that are so many seconds apart."""
         clock = iter(range(1, count + 1))
-        with mock.patch.multiple(standing, is_asleep=lambda _: True, are_gone=lambda _: self.gone, going_on=lambda *_: 0, doubts=lambda *_: [], described=lambda *_: ["stands"]), \
+        with mock.patch.multiple(standing, is_asleep=lambda _: True, are_gone=lambda _: self.gone, going_on=lambda *_: 0, doubts=lambda *_: [],
+                                 described=lambda *_: ["stands"]), \
                 mock.patch.object(standing.time, "monotonic", lambda: seconds * next(clock)):
             return [self.watch.look() for _ in range(count)]
 
@@ -231,7 +314,8 @@ class TheWatch(unittest.TestCase):
 
 
 class WhatCouldEndIt(unittest.TestCase):
-    def found(self, releasing: int, going: int, call: int = IN_LOCK, timers: tuple[Timer, ...] = (), family: tuple[int, ...] = (), caught: int = 14) -> list[Doubt]:
+    def found(self, releasing: int, going: int, call: int = IN_LOCK, timers: tuple[Timer, ...] = (), family: tuple[int, ...] = (),
+              caught: int = 14) -> list[Doubt]:
         """Of two threads, of which the second one runs no handlers. The signal that is caught has one."""
         table = mock.Mock(spec=Table)
         table.timers.return_value, table.last.return_value = timers, last()
@@ -271,8 +355,8 @@ class WhatCouldEndIt(unittest.TestCase):
             self.assertEqual([(each.call, each.is_interruptible, each.runs_handlers) for each in found], [(IN_JOIN, *wanted)])
 
     def test_the_program_stands_still_if_nobody_else_can_go_on(self) -> None:
-        rows = ((0, "the program stands still"), (1, "its threads stand still, and 1 other thread can go on"), (2, "its threads stand still, and 2 other threads can go on"))
-        for going, wanted in rows:
+        for going, wanted in ((0, "the program stands still"), (1, "its threads stand still, and 1 other thread can go on"),
+                              (2, "its threads stand still, and 2 other threads can go on")):
             self.assertEqual(still_words(Outcome(going=going)), wanted)
 
     def test_what_a_shell_has_left_is_of_the_run(self) -> None:

@@ -6,6 +6,8 @@ import signal
 import subprocess
 import time
 
+from .ending import undisturbed
+
 PATIENCE = 30.0  # seconds that a program has to end by SIGTERM
 
 
@@ -23,11 +25,15 @@ class Load:
             return
         if self.child is None:
             if takes_locks:
-                self.child = subprocess.Popen(["sh", "-c", self.command], stdin=subprocess.DEVNULL, stdout=self.output, stderr=self.output,
-                                              start_new_session=True)
+                self.start()
         elif not self.asked_at and self.child.poll() is not None:
             self.asked_at = time.monotonic()
             send(program, signal.SIGTERM)
+
+    def start(self) -> None:
+        with undisturbed() as before:
+            self.child = subprocess.Popen(["sh", "-c", self.command], stdin=subprocess.DEVNULL, stdout=self.output, stderr=self.output,
+                                          start_new_session=True, preexec_fn=lambda: signal.pthread_sigmask(signal.SIG_SETMASK, before))
 
     def is_overdue(self) -> bool:
         """Whether the program was asked to end some time ago."""

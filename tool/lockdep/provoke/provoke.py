@@ -16,9 +16,10 @@ from ..record.folder import DEFAULT_FOLDER, fault
 from ..record.recorders import RECORDERS, Recorder, recorder_for
 from ..record.summary import recorder_of
 from ..say.recorded import summary_quietly
+from .ending import ENDING
 from .holders import HOLDERS, Holder
 from .plan import why_not_by_signal
-from .recorded import ENDING, Recorded, recorded
+from .recorded import Recorded, recorded
 from .table import Modules
 from .tries import NOT_HAPPENED, NOTHING_TRIED, Tries, say
 
@@ -71,6 +72,9 @@ class Ended(BaseException):
 
 
 def end_by(number: int, frame: object) -> None:
+    """Another signal mustn't come between what is ended now."""
+    for each in ENDING:
+        signal.signal(each, signal.SIG_IGN)
     raise Ended(number)
 
 

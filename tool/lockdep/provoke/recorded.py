@@ -12,12 +12,12 @@ from ..base.saying import Refusal, write_error
 from ..record.folder import checked
 from ..record.recorders import Recorder
 from ..record.recording import pass_on
+from .ending import ENDING
 from .holders import Holder
 from .load import Load, send
 from .standing import LOOK
 from .system import ENDED, WAIT4, WAITID, call_of, descendants, listed, state_of, tasks_of, text_of_file, waits_for_lock
 
-ENDING = (signal.SIGINT, signal.SIGTERM, signal.SIGHUP)  # signals that end this command
 STILL = 10.0  # seconds for which a program that stands still is waited for
 STILL_LOOK = 0.5  # seconds from one look for that to the next, at least
 

@@ -8,14 +8,15 @@ import subprocess
 import time
 from dataclasses import dataclass, field
 
+from .ending import undisturbed
 from .holders import Holder
 from .load import Load, send
-from .standing import LOOK, Doubt, Standing, Waiting, Watch, builds_of, status_words, waiting
-from .system import ENDED, children_of, state_of
+from .standing import LOOK, Doubt, Standing, Waiting, Watch, builds_of, is_ended_by, status_words, waiting
+from .system import ENDED, children_of, is_dumping, is_there, state_of
 from .table import Table
 from .ways import Way
 
-GRACE = 0.5  # seconds that a process has to end
+GRACE = 0.5  # seconds that a process has to end which has a handler for SIGABRT
 MOST_GENERATIONS = 100  # of processes that are left, each by the one before
 PR_SET_CHILD_SUBREAPER = 36
 
@@ -45,33 +46,42 @@ class Run:
 
     def __init__(self, command: list[str], holder: Holder, plan: str, table: Table, way: Way, given: str, output: int, load: str,
                  dumps: bool) -> None:
-        environment = dict(holder.environment(command), LOCKDEP_PROVOKE_PLAN=plan, LOCKDEP_PROVOKE_TABLE=table.path,
-                           LOCKDEP_PROVOKE_PAUSE=str(way.pause))
-        self.table, self.load, self.holder = table, Load(load, output), holder
+        self.command = holder.command(command)
+        self.environment = dict(holder.environment(command), LOCKDEP_PROVOKE_PLAN=plan, LOCKDEP_PROVOKE_TABLE=table.path, LOCKDEP_PROVOKE_PAUSE=str(way.pause))
+        self.table, self.load, self.holder, self.given, self.output, self.dumps = table, Load(load, output), holder, given, output, dumps
+        self.child: subprocess.Popen | None = None
+
+    def start(self) -> None:
+        with open(self.given or os.devnull, "rb") as stdin, undisturbed() as before:
+            self.child = subprocess.Popen(self.command, stdin=stdin, stdout=self.output, stderr=self.output, env=self.environment, start_new_session=True,
+                                          preexec_fn=lambda: self.prepare(before))
+
+    def prepare(self, before: set[int]) -> None:
+        """What the started process does before it becomes the command, with those signals held back that were so before."""
         most = resource.getrlimit(resource.RLIMIT_CORE)[1]
-        with open(given or os.devnull, "rb") as stdin:
-            self.child = subprocess.Popen(holder.command(command), stdin=stdin, stdout=output, stderr=output, env=environment, start_new_session=True,
-                                          preexec_fn=lambda: resource.setrlimit(resource.RLIMIT_CORE, (most if dumps else 0, most)))
+        resource.setrlimit(resource.RLIMIT_CORE, (most if self.dumps else 0, most))
+        signal.pthread_sigmask(signal.SIG_SETMASK, before)
 
     def outcome(self, limit: float, sure: float) -> Outcome:
-        """Waits until the command and what it has left in the background have ended, or stand still for so many seconds, and for a limit at most: behind
-        that only as long as they stand."""
+        """Starts the command, and waits until it and what it has left in the background have ended, or stand still for so many seconds, and for a limit at
+        most: behind that only as long as they stand."""
+        self.start()
+        assert self.child
         watch, end = Watch(self.table, self.holder.numbers, sure), time.monotonic() + limit
         while time.monotonic() < end or watch.still:
             if watch.look():
                 return Outcome(process=watch.cycle[0].process, standing=watch.standing, doubts=watch.doubts, going=watch.going,
                                stood=watch.stood, builds=builds_of(watch.cycle[0], watch.standing))
             if self.child.poll() is not None and not self.is_something_left():
-                return self.ended(watch)
+                return self.ended(watch, self.child.returncode)
             if not watch.cycle:  # (or the program may be ended that stands still)
                 self.load.step(bool(self.table.threads()), self.child.pid)
             time.sleep(LOOK)
         is_running = self.child.returncode is None
         return Outcome(status=self.child.returncode, waiting=waiting(self.table, self.holder.numbers) if is_running else None, went_on=watch.longest)
 
-    def ended(self, watch: Watch) -> Outcome:
+    def ended(self, watch: Watch, status: int) -> Outcome:
         """The program has ended: perhaps as it stood still, as by a thread that ends it then, or after its threads had gone on, as the table says."""
-        status = self.child.returncode
         watch.look()
         if not watch.has_stood():
             return Outcome(status=status, went_on=watch.longest)
@@ -83,10 +93,18 @@ class Run:
 
     def end(self, process: int) -> None:
         """Ends what stands still, and all that the run has left."""
-        self.load.end()
-        if process:
-            send(process, signal.SIGABRT)
-            self.wait_shortly()
+        try:
+            self.load.end()
+            if process:
+                send(process, signal.SIGABRT)
+                wait_for_end(process)
+        finally:
+            with undisturbed():
+                self.kill()
+
+    def kill(self) -> None:
+        if self.child is None:
+            return
         send(-self.child.pid, signal.SIGKILL)
         send(self.child.pid, signal.SIGKILL)
         self.child.wait()
@@ -98,11 +116,13 @@ class Run:
             if not left:
                 return
 
-    def wait_shortly(self) -> None:
-        try:
-            self.child.wait(GRACE)
-        except subprocess.TimeoutExpired:
-            pass
+
+def wait_for_end(process: int) -> None:
+    """Waits until a process that was sent SIGABRT has ended: as long as it has to end by that, or writes a core dump, and otherwise, as where a handler
+    does something else, for a short time."""
+    end = time.monotonic() + GRACE
+    while is_there(process) and (is_ended_by(process, signal.SIGABRT) or is_dumping(process) or time.monotonic() < end):
+        time.sleep(LOOK)
 
 
 def adopt_orphans() -> None:

@@ -11,9 +11,9 @@ from ..base.words import counted
 from ..binaries.elf import build_words
 from ..binaries.symbols import Address
 from .holders import LIBRARY
-from .system import ENDED, children_of, descendants, is_endless, link_of, parent_of, session_of, sleeps_of, state_of, tasks_of, text_of_file
-from .table import (BY_ANYBODY, BY_HOLDER, BY_OTHERS, IN_CONDITION, IN_JOIN, IN_ONCE, IN_SEMAPHORE, IN_SPIN, READS_BEHIND, RUNS_FUNCTION, SHARED_LOCK, WAITS, WRITES,
-                    Held, Modules, Place, Table, Thread, cycle_in)
+from .system import ENDED, STOPPED, children_of, descendants, is_endless, link_of, parent_of, session_of, sleeps_of, state_of, tasks_of, text_of_file
+from .table import (BY_ANYBODY, BY_HOLDER, BY_OTHERS, IN_CONDITION, IN_JOIN, IN_ONCE, IN_SEMAPHORE, IN_SPIN, READS_BEHIND, RUNS_FUNCTION, SHARED_LOCK,
+                    WAITS, WRITES, Held, Modules, Place, Table, Thread, cycle_in)
 
 ASLEEP = "S"  # the state of a thread, as the kernel has it
 RUNNING = "R"
@@ -24,7 +24,7 @@ LOOKS_STILL = 0.2  # seconds after which it is said that threads stood, if they 
 WAITS_IN = {IN_CONDITION: "to be woken", IN_JOIN: "for a thread's end", IN_ONCE: "for what runs once", IN_SEMAPHORE: "for a semaphore", IN_SPIN: "for a spin lock"}
 OF_THE_SYSTEM = ("libc.so", "libpthread.so", "ld-linux")  # modules whose functions begin each thread
 HANDLED = "may send a signal that has a handler: %s"
-CAUGHT, BLOCKED = b"SigCgt:", b"SigBlk:"  # begin lines of what the system says of a process, and of a thread
+CAUGHT, IGNORED, BLOCKED = b"SigCgt:", b"SigIgn:", b"SigBlk:"  # begin lines of what the system says of a process, and of a thread
 OF_FAULTS = {signal.SIGSEGV, signal.SIGBUS, signal.SIGFPE, signal.SIGILL, signal.SIGTRAP, signal.SIGABRT, signal.SIGSYS}
 FIRST_OF_SYSTEM = 32  # the first signal of the C library's own
 
@@ -243,6 +243,15 @@ def shared_memory(process: int, but: str) -> set[tuple[str, str]]:
 def is_caught(process: int, number: int) -> bool:
     """Whether a signal has a handler in a process, and a thread that doesn't block it."""
     return number > 0 and heeded_by(process, tasks_of(process)) >> number - 1 & 1 > 0
+
+
+def is_ended_by(process: int, number: int) -> bool:
+    """Whether a signal that was sent to a process has to end it: no handler is to run for it, it isn't ignored, and a thread doesn't block it. What is
+    stopped, as by a debugger, may never heed it."""
+    bit, status = 1 << number - 1, "/proc/%d/status" % process
+    states = [(state_of(process, task), mask_in("/proc/%d/task/%d/status" % (process, task), BLOCKED)) for task in tasks_of(process)]
+    return not (mask_in(status, CAUGHT) | mask_in(status, IGNORED)) & bit and all(state not in STOPPED for state, _ in states) and \
+        any(state not in ENDED and not blocked & bit for state, blocked in states)
 
 
 def heeded_by(process: int, threads: list[int]) -> int:

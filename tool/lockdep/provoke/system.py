@@ -10,6 +10,8 @@ OF_PIPE = "pipe:"  # begins what the system says an open pipe is
 TO_WRITE = os.O_WRONLY | os.O_RDWR
 NO_LIMIT = "0x0"  # of the time of a wait
 ENDED = ("", "Z", "X")  # states of processes and threads
+STOPPED = ("T", "t")
+DUMPING = "CoreDumping:\t1"  # a line of what the system says of a thread
 
 
 def state_of(process: int, thread: int) -> str:
@@ -19,6 +21,16 @@ def state_of(process: int, thread: int) -> str:
             return file.read().rpartition(b")")[2].split()[0].decode()
     except (OSError, IndexError):
         return ""
+
+
+def is_there(process: int) -> bool:
+    """Whether a process has a thread that hasn't ended. (Its first one may have.)"""
+    return any(state_of(process, thread) not in ENDED for thread in tasks_of(process))
+
+
+def is_dumping(process: int) -> bool:
+    """Whether a process writes a core dump."""
+    return any(DUMPING in text_of_file("/proc/%d/task/%d/status" % (process, thread)) for thread in tasks_of(process))
 
 
 def text_of_file(path: str) -> str:

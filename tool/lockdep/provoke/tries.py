@@ -211,11 +211,11 @@ class Tries:
     def run(self, number: int, count: int, way: Way, table: Table) -> Outcome:
         output = os.open(os.path.join(self.room, "output-%d-%d" % (number, count)), os.O_WRONLY | os.O_CREAT | os.O_TRUNC, 0o666)
         run = Run(self.command, self.holder, self.write_plan(number, way), table, way, self.given, output, self.beside, self.dumps)
-        os.close(output)
         outcome = Outcome()
         try:
             outcome = run.outcome(self.limit, self.sure)
         finally:
+            os.close(output)  # (which the command beside the run has, too)
             if outcome.standing and self.is_kept:
                 run.load.end()
             else:
