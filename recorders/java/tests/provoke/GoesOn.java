@@ -1,4 +1,5 @@
 import java.io.IOException;
+import java.util.concurrent.locks.LockSupport;
 import java.util.concurrent.locks.ReentrantLock;
 import java.util.concurrent.locks.StampedLock;
 
@@ -6,6 +7,7 @@ import java.util.concurrent.locks.StampedLock;
 final class GoesOn {
     private static final int LOOKS = 1200; // which are never over: the run is judged long before
     private static final int MILLISECONDS = 50;
+    private static final int CROWD = 1100;
     private static final String SECONDS = "600"; // as well
     private static final Object accounts = new Object();
     private static final Object journal = new Object();
@@ -90,6 +92,18 @@ final class GoesOn {
         if (over < 2) end.run();
     }
 
+    /** More threads than a recorder has room for, which wait for nobody. */
+    static void startCrowd() {
+        if (System.getenv("LOCKDEP_PROVOKE_PLAN") == null) return;
+        for (int at = 0; at < CROWD; at++) {
+            Thread one = new Thread(() -> {
+                while (true) LockSupport.park();
+            });
+            one.setDaemon(true);
+            one.start();
+        }
+    }
+
     static void end(String way) {
         if (way.equals("release")) other.tryUnlockWrite();
         else if (way.equals("halt")) Runtime.getRuntime().halt(7);
@@ -106,10 +120,11 @@ final class GoesOn {
 
     public static void main(String[] words) throws IOException, InterruptedException {
         String way = words[0];
+        if (way.equals("crowd")) startCrowd();
         Thread watch = new Thread(() -> lookOn(() -> end(way)));
         watch.setDaemon(way.equals("halt"));
         if (!way.equals("exit")) watch.start();
-        if (way.equals("interrupt")) Apart.run(GoesOn::forwards, GoesOn::backwards);
+        if (way.equals("interrupt") || way.equals("crowd")) Apart.run(GoesOn::forwards, GoesOn::backwards);
         else if (way.equals("exit")) runBeside();
         else if (way.equals("join")) join();
         else if (way.equals("halt")) Apart.run(() -> enterLater(accounts, journal), () -> enterLater(journal, accounts));

@@ -132,6 +132,10 @@ public final class Provoke {
             while (true) {
                 int going = 0;
                 int count = program.enumerate(threads);
+                if (count == threads.length) { // there may be more
+                    threads = new Thread[2 * count];
+                    continue;
+                }
                 for (int at = 0; at < count; at++) if (canGoOn(threads[at])) going++;
                 table.putInt(COUNTING + 4, going);
                 table.putInt(COUNTING, pid);
