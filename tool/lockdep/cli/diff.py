@@ -11,20 +11,21 @@ from ..ask.asking import ask_about
 from ..ask.blocked import sources_wanted
 from ..ask.breaches import breaches_in
 from ..ask.verdict import Recorded
-from ..base.files import need_output, text_named, writing
+from ..base.files import is_file, need_output, text_named, writing
 from ..base.saying import Refusal
 from ..base.words import class_of_lock, counted, name_in, type_of_class, visible
 from ..binaries.cplusplus import without_parameters
 from ..gather.facts import Program
 from ..gather.findings import Back, InRecordings, findings_in
 from ..gather.agreement import gathered_in
+from ..gather.recordings import Bad, check_events, check_threads, summaries_of, traces_of
 from ..known.known import pattern_of
 from ..known.suppressions import pattern_text
 from ..places.sources import Sources, keys_of, sources_of
 from ..places.where_made import Place, place_now, place_of
 from ..program.checker import program_path
 from ..program.findings import Finding, finding_of
-from ..record.complete import UNMADE, check_files, is_gathered, is_unmade
+from ..record.complete import UNMADE, check_files, is_gathered, is_unmade, why_none
 from ..say.terminal import Writer, text_stream
 from ..say.verdict_words import verdict_of
 from .options import no_option
@@ -107,8 +108,10 @@ def sides_of_json(name: str) -> list[Side]:
         said = json.loads(text_named(name, WHAT))
         findings = [side_of_json(number, finding) for number, finding in enumerate(said["findings"], 1) if not is_note(number, finding)]
         return findings + [side_of_breach(breach) for breach in said.get("breaches", [])]
-    except (ValueError, KeyError, TypeError, AttributeError, RecursionError) as error:
-        raise Refusal("%s, %s, can't be read: %s" % (visible(name), WHAT, visible(repr(error))))
+    except json.JSONDecodeError as error:
+        raise Refusal("%s, %s, can't be read: line %d is no JSON: %s" % (visible(name), WHAT, error.lineno, visible(error.msg)))
+    except (ValueError, KeyError, TypeError, AttributeError, RecursionError):
+        raise Refusal("%s, %s, can't be read: it has something else than a finding" % (visible(name), WHAT))
 
 
 def sides_of_gathered(folder: str) -> list[Side]:
@@ -127,12 +130,23 @@ def sides_of_findings(findings: list[Finding], recorded: Recorded, sources: Sour
 def sides_of(name: str) -> list[Side]:
     if is_gathered(name):
         return sides_of_gathered(name)
-    if is_unmade(name):
-        raise Refusal(UNMADE % visible(name))
     if not os.path.isdir(name):
         return sides_of_json(name)
-    check_files(name)
+    check_recording(name)
     return sides_of_folder(name)
+
+
+def check_recording(folder: str) -> None:
+    """Refuses what is no recording, and what has less than was recorded. (Traces of single locks may be missing.)"""
+    check_files(folder)
+    if not is_file(os.path.join(folder, "SUMMARY")):
+        raise Refusal(UNMADE % visible(folder) if is_unmade(folder) else "%s has no recording%s" % (visible(folder), why_none(folder)))
+    try:
+        summaries, traces = summaries_of(folder), traces_of(folder)
+        check_threads(traces, summaries)
+        check_events(traces, summaries)
+    except Bad as bad:
+        raise Refusal("%s: %s" % (visible(folder), bad.why))
 
 
 def write_list(writer: Writer, word: str, sides: list[Side]) -> None:

@@ -35,7 +35,8 @@ def gathered_in(folder: str, program: Program, has_places: bool = True) -> Gathe
     try:
         with limited_memory(used_memory()):
             gathered = Gathered(folder, has_places=has_places)
-            check_agreement(gathered)
+            if facts_of(gathered.files[TRACE]):
+                check_agreement(gathered)
             check_trace(gathered, program)
             return gathered
     except MemoryError:
@@ -47,9 +48,17 @@ def check_trace(gathered: Gathered, program: Program) -> None:
     answer = program.condensed_texts([gathered.files[TRACE]])
     if answer.status >= REFUSED:
         raise Refusal("%s can't be read: its file `%s`: %s" % (visible(gathered.folder), TRACE, DESCRIPTOR.sub("", answer.reason)))
-    if [set(those) for those in facts_in(answer.output)] != [set(those) for those in facts_in(gathered.files[TRACE])]:
+    if facts_of(answer.output) != facts_of(gathered.files[TRACE]):
         raise gathered.damaged(TRACE)
     gathered.files[TRACE] = answer.output
+
+
+def facts_of(trace: bytes) -> list[set] | None:
+    """The orders and marks of a condensed trace; None if it has what is in none, and so is refused."""
+    try:
+        return [set(those) for those in facts_in(trace)]
+    except (KeyError, IndexError, ValueError):
+        return None
 
 
 def check_agreement(gathered: Gathered) -> None:
