@@ -112,9 +112,17 @@ def are_asleep(processes):
         return False
 
 
+def all_are_asleep(process):
+    """Whether no thread of a process, and of all that it started, has run for a while."""
+    try:
+        return are_asleep(processes_of(process))
+    except OSError:  # (one has ended before its own were known)
+        return False
+
+
 def await_asleep(process):
     """Waits until a process, and all that it started, waits for what doesn't come by itself."""
-    await_that(lambda: are_asleep(processes_of(process)))
+    await_that(lambda: all_are_asleep(process))
 
 
 class Run:
