@@ -263,14 +263,14 @@ class WhatCameOfIt(unittest.TestCase):
 
 class TheWatch(unittest.TestCase):
     def setUp(self) -> None:
-        table, self.gone = mock.Mock(spec=Table), False
+        table, self.gone, self.awake = mock.Mock(spec=Table), False, False
         table.threads.return_value = [thread(1, 20, 10, BY_HOLDER), thread(2, 10, 20, BY_HOLDER)]
         self.watch = standing.Watch(table, mock.Mock(), 1.0)
 
     def looks(self, seconds: float, count: int) -> list[bool]:
         """Whether two threads have stood for a second, at looks that are so many seconds apart."""
         clock = iter(range(1, count + 1))
-        with mock.patch.multiple(standing, is_asleep=lambda _: True, are_gone=lambda _: self.gone, going_on=lambda *_: 0, doubts=lambda *_: [],
+        with mock.patch.multiple(standing, is_asleep=lambda _: not self.awake, are_gone=lambda _: self.gone, going_on=lambda *_: 0, doubts=lambda *_: [],
                                  described=lambda *_: ["stands"]), \
                 mock.patch.object(standing.time, "monotonic", lambda: seconds * next(clock)):
             return [self.watch.look() for _ in range(count)]
@@ -284,8 +284,24 @@ class TheWatch(unittest.TestCase):
     def test_threads_that_are_gone_stand_no_longer(self) -> None:
         """(So their run is over at its limit.)"""
         self.looks(0.021, 10)
-        self.gone = True
+        self.gone = self.awake = True
         self.assertEqual((self.looks(0.021, 1), self.watch.still), ([False], False))
+
+    def test_threads_that_are_being_ended_stood_until_then(self) -> None:
+        """The system wakes each thread of a process that ends, and some may be gone before others."""
+        self.looks(0.021, 20)
+        self.awake = True
+        self.looks(0.021, 1)
+        self.gone = True
+        self.looks(0.021, 1)
+        self.assertEqual((self.watch.has_stood(), self.watch.standing, self.watch.longest), (True, ["stands"], 0.0))
+
+    def test_threads_that_were_awake_stand_anew(self) -> None:
+        self.looks(0.021, 40)
+        self.awake = True
+        self.looks(0.021, 1)
+        self.awake = False
+        self.assertEqual((self.looks(0.021, 49).index(True), self.watch.longest > 0.7), (48, True))
 
     def test_who_ends_it_may_be_gone_when_that_is_looked_for(self) -> None:
         """Another process releases a lock and ends while it is looked for what could end the standstill: nothing is left that could, but the threads go on."""

@@ -62,6 +62,7 @@ class Watch:
         self.looked = self.stood = 0.0  # when it looked last, and for how many seconds the threads of the cycle had stood then
         self.longest = 0.0  # seconds for which threads stood that went on
         self.still = False  # whether they stood at the last look
+        self.woke = False  # whether one was awake since, with nothing changed: it goes on, or has been ended with its process and isn't gone yet
         self.cycle: list[Thread] = []
         self.standing: list[Standing] = []
         self.doubts: list[Doubt] = []  # what could end it, when they had stood long enough
@@ -73,11 +74,11 @@ class Watch:
         cycle, now = cycle_in(self.table.threads()), time.monotonic()
         passed, self.looked, self.still = min(now - self.looked, LONGEST_LOOK), now, False
         seen = changes_of(cycle)
-        if cycle and seen == self.seen and are_gone(cycle):
+        if cycle and seen == self.seen and not all(map(is_asleep, cycle)):
+            self.woke |= not are_gone(cycle)
             return False
-        if not cycle or seen != self.seen or not all(map(is_asleep, cycle)):
-            self.longest = max(self.longest, self.stood if self.has_stood() else 0.0)
-            self.seen, self.cycle, self.stood, self.standing = seen, cycle, 0.0, []
+        if not cycle or seen != self.seen or self.woke:
+            self.begin(cycle, seen)
             return False
         self.stood, self.still = self.stood + passed, True
         if self.has_stood() and not self.standing:
@@ -87,6 +88,11 @@ class Watch:
         self.going = going_on(cycle, self.table)
         self.doubts = doubts(cycle, self.going, self.table)
         return (not self.doubts or self.stood >= 2 * self.sure) and self.is_as_seen()
+
+    def begin(self, cycle: list[Thread], seen: tuple[tuple[int, int], ...]) -> None:
+        """Other threads than before may stand from now on, or the same ones once more. Those that stood have gone on."""
+        self.longest = max(self.longest, self.stood if self.has_stood() else 0.0)
+        self.seen, self.cycle, self.stood, self.standing, self.woke = seen, cycle, 0.0, [], False
 
     def is_as_seen(self) -> bool:
         """Whether the threads of the cycle stand as they did before it was looked for what could end that: who is gone by then may have done so."""
