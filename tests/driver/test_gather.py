@@ -18,7 +18,7 @@ from lockdep.base.saying import Refusal
 from lockdep.binaries.symbols import Address
 from lockdep.gather import agreement, engines, facts, gathered, gathering, kept_places, memory, nights, orders, places, recordings, timed, whole
 from lockdep.gather.facts import Facts, Lacking, Program
-from lockdep.gather.findings import Back, all_wanted
+from lockdep.gather.findings import Back, all_wanted, in_a_list
 from lockdep.gather.gathered import Listed
 from lockdep.gather.orders import Seen
 from lockdep.places import places as places_of_traces
@@ -398,6 +398,10 @@ class Questions(unittest.TestCase):
     def test_what_is_joined_already(self) -> None:
         names = ["k%d" % number for number in range(256)]
         self.assertEqual(len(self.parts([(first, second) for first in names for second in names[:9]])), 1)
+
+    def test_names_that_imitate_lists(self) -> None:
+        for name, shown in (("a/b", "a/b"), ("a b: c", "a b: c"), ("a, b", "'a, b'"), ("x; on 2026-01-01", "'x; on 2026-01-01'"), ("a\n", "a\\n")):
+            self.assertEqual(in_a_list(name), shown)
 
     def test_marks_without_a_counterpart_are_not_asked_for(self) -> None:
         entries = [b"a/0 EN b/0", b"used hardirq a/0", b"used hardirqs on b/0", b"used softirqs on a/0"]

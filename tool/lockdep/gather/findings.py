@@ -9,7 +9,7 @@ from itertools import accumulate, islice
 from typing import Iterable, Iterator
 
 from ..ask.verdict import Recorded, by_importance, type_of_key
-from ..base.saying import Refusal
+from ..base.saying import Refusal, typed
 from ..base.words import bytes_of, counted, name_in, text_of, visible
 from ..program.checker import BY_LOCKS, REFUSED, ask
 from ..program.findings import Between, Finding, findings_said, numbered, take_records
@@ -40,6 +40,7 @@ NOT_COMPARED = "%s: single locks of one recording can't be compared with those o
 MOST_SHOWN = 400  # orders of the findings on a page: a table has a column for each task, and rows of each
 MOST_DRAWN = 300  # orders and marks of a picture: more of them take Graphviz half a minute
 MOST_LOOKED_FOR = 5000  # orders and marks of findings whose records are looked for
+SEPARATORS = set(",;")
 NO_RECORDS = "no records are shown for %s: none of the recordings that are named is there any more and has it"
 
 
@@ -106,7 +107,7 @@ class Back:
 
     def listed(self, seen: Seen) -> str:
         more = "" if seen.is_whole else " and %s more" % "{:,}".format(seen.count - len(seen.first))
-        return ", ".join(map(visible, self.names(seen))) + more
+        return ", ".join(map(in_a_list, self.names(seen))) + more
 
     # ---- Where.
 
@@ -157,6 +158,11 @@ def take_away(said: dict) -> None:
             part.pop(name, None)
     said.update({name: [] for name in ("notes", "gates") if name in said})
     said.pop("only", None)
+
+
+def in_a_list(name: str) -> str:
+    """A recording's name as it is shown: in quotes if it has what stands between such names, or behind them."""
+    return typed(visible(name)) if set(name) & SEPARATORS else visible(name)
 
 
 def keys_of(what: Wanted) -> list[str]:
@@ -290,8 +296,8 @@ class InRecordings(Recorded):
     def words_of_whole(self, whole: Seen) -> str:
         names = self.back.names(self.there_first(whole))
         if whole.count < 2:
-            return ", all in %s" % visible(names[0]) if whole.count else ", " + TOGETHER
-        return ", all in %s, as %s" % (counted(whole.count, "recording"), visible(names[0]))
+            return ", all in %s" % in_a_list(names[0]) if whole.count else ", " + TOGETHER
+        return ", all in %s, as %s" % (counted(whole.count, "recording"), in_a_list(names[0]))
 
     def steps_words(self, finding: Finding, inner: Finding | None) -> str:
         whole = self.whole(finding, inner) if inner else None
@@ -299,7 +305,7 @@ class InRecordings(Recorded):
             return OF_EACH
         first = self.there_first(whole).first[0]
         if not self.back.recordings.is_there(first):
-            return GONE % visible(self.back.recordings.names.get(first, ""))
+            return GONE % in_a_list(self.back.recordings.names.get(first, ""))
         return OF_ONE if os.path.isdir(self.back.recordings.roots[first]) else OF_TRACE
 
     def there_first(self, seen: Seen) -> Seen:
