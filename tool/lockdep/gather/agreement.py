@@ -117,10 +117,10 @@ class Agreement:
         yield from map(text_of, sorted(entries ^ entries_of(self.orders, self.marks)))
         yield from (text_of(entry) for entry, seen in self.table.items() if not seen.count or not self.fits(seen))
         for begin in (TIMED_ORDER, WHOLE):
-            lines = {entry: parts_of_entry(entry) for entry in self.table if entry.startswith(begin)}
-            several = merge_tables([dict.fromkeys(parts, self.table[entry]) for entry, parts in lines.items()])
+            lines = [entry for entry in self.table if entry.startswith(begin)]
+            several = merge_tables(dict.fromkeys(parts_of_entry(entry), self.table[entry]) for entry in lines)
             wrong = {part for part, seen in several.items() if not self.fits(seen) or not is_among(seen, self.table.get(part, Seen()))}
-            yield from (text_of(entry) for entry, parts in lines.items() if not wrong.isdisjoint(parts))
+            yield from (text_of(entry) for entry in lines if wrong and not wrong.isdisjoint(parts_of_entry(entry)))
 
     def locks(self) -> Iterator[str]:
         """Orders and marks of single locks that are of no recording, or not of one that has them."""

@@ -6,7 +6,7 @@ from __future__ import annotations
 import functools
 from collections import Counter
 from operator import itemgetter
-from typing import Dict, Tuple
+from typing import Dict, Iterable, Tuple
 
 from .names import class_of, name_of_key, type_of
 
@@ -132,7 +132,7 @@ def orders_of_locks(orders: list[LockOrder]) -> dict[bytes, int]:
     return of_names
 
 
-def merge_tables(tables: list[Table]) -> Table:
+def merge_tables(tables: Iterable[Table]) -> Table:
     """The table of recordings that are in no two of these."""
     merged: Table = {}
     together = functools.lru_cache(MOST_ALIKE)(Seen.__add__)

@@ -80,16 +80,23 @@ def left_in_turn(ahead: Graph, nodes: list[bytes]) -> list[bytes]:
 
 
 class Wholes:
-    """The entries of what was gathered."""
+    """The entries of what was gathered, each by its place: for each order or mark by classes, and by types, those that have it."""
 
     def __init__(self, table: Table) -> None:
-        self.parts = [(set(entry[len(WHOLE):].split(BETWEEN)), seen) for entry, seen in table.items() if entry.startswith(WHOLE)]
-        self.by_types = [({entry_of_types(entry) for entry in part}, seen) for part, seen in self.parts]
+        entries = [entry for entry in table if entry.startswith(WHOLE)]
+        self.seen_of = [table[entry] for entry in entries]
+        self.places: dict[bytes, list[int]] = {}
+        for place, entry in enumerate(entries):
+            for part in entry[len(WHOLE):].split(BETWEEN):
+                self.places.setdefault(part, []).append(place)
+        self.of_types: dict[bytes, list[list[int]]] = {}
+        for part, places in self.places.items():
+            self.of_types.setdefault(entry_of_types(part), []).append(places)
 
     def seen(self, wanted: set[bytes], is_of_types: bool) -> Seen:
         """The recordings that have all of these orders and marks, which are by types, or by classes."""
-        parts = self.by_types if is_of_types else self.parts
-        return merge_tables([{WHOLE: seen} for part, seen in parts if wanted <= part]).get(WHOLE, Seen())
+        several = [set().union(*self.of_types.get(each, ())) if is_of_types else set(self.places.get(each, ())) for each in wanted]
+        return merge_tables({WHOLE: self.seen_of[place]} for place in sorted(set.intersection(*several))).get(WHOLE, Seen())
 
 
 def entry_of_types(entry: bytes) -> bytes:
