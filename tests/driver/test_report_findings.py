@@ -60,7 +60,7 @@ class NamesOfThreads(unittest.TestCase):
 
     def test_one_of_another_recording_is_told_apart(self):
         events = [Event("x/m1/objects/task-0001.csv", 2), Event("y/m2/task-0001.csv", 2), Event("y/m2/task-0002.csv", 2)]
-        self.assertEqual([thread_of(event, [each.file for each in events]) for event in events], [" (task-0001 of m1)", " (task-0001 of m2)", " (task-0002)"])
+        self.assertEqual([thread_of(event, [each.file for each in events]) for event in events], [" (task-0001 of m1)", " (task-0001 of m2)", " (task-0002 of m2)"])
         alike = [Event("x/m/objects/task-0001.csv", 2), Event("y/m/objects/task-0001.csv", 4)]
         self.assertEqual([thread_of(event, [each.file for each in alike]) for event in alike], [" (task-0001 of x/m)", " (task-0001 of y/m)"])
         for one, other in (("m/objects/task-0001.csv", "m/task-0001.csv"), ("m/task-0001.csv", "m/signals/1/task-0001.csv")):

@@ -53,9 +53,9 @@ def folder_of(trace: str) -> str:
 
 
 def of_recording(trace: str, traces: Iterable[str]) -> str:
-    """Of which recording a thread is, behind what it is called, if one of another recording is called so, too."""
+    """Of which recording a thread is, behind what it is called, if threads of several recordings are told of."""
     own = folder_of(trace)
-    others = {folder_of(other) for other in traces if os.path.basename(other) == os.path.basename(trace)} - {own}
+    others = {folder_of(other) for other in traces} - {own}
     is_told = all(os.path.basename(other) != os.path.basename(own) for other in others)
     return " of " + visible((os.path.basename(own) if is_told else own) or own or ".") if others else ""
 
