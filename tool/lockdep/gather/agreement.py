@@ -12,7 +12,8 @@ from .gathered import FOLDED, FOLDED_LOCKS, LEFT, LEFT_OUT, MARK, ORDERS, PLACES
 from .kept_places import entry_of
 from .memory import limited_memory, used_memory
 from .names import BETWEEN, TIMED_ORDER, WHOLE, owner_of
-from .orders import Seen, at_levels, entries_of, facts_in, merge_tables, number_of_words, words_of_number
+from .orders import USED, LockOrder, Seen, at_levels, entries_of, facts_in, merge_tables, number_of_words, words_of_number
+from .timed import entry_of as entry_of_locks
 
 TYPE_CHECKING = False
 if TYPE_CHECKING:
@@ -116,11 +117,20 @@ class Agreement:
         entries = {entry for entry in self.table if not entry.startswith((TIMED_ORDER, WHOLE))}
         yield from map(text_of, sorted(entries ^ entries_of(self.orders, self.marks)))
         yield from (text_of(entry) for entry, seen in self.table.items() if not seen.count or not self.fits(seen))
+        timed = {TIMED_ORDER + entry_of_locks(order) for order in self.orders}
+        yield from (text_of(entry) for entry in self.table if entry.startswith(TIMED_ORDER) and b"#" in entry and entry not in timed)
+        types = types_of(self.orders, self.marks)
+        yield from (text_of(entry) for entry, by_types in types.items() if not is_among(self.table.get(entry, Seen()), self.table.get(by_types, Seen())))
         for begin in (TIMED_ORDER, WHOLE):
-            lines = [entry for entry in self.table if entry.startswith(begin)]
-            several = merge_tables(dict.fromkeys(parts_of_entry(entry), self.table[entry]) for entry in lines)
-            wrong = {part for part, seen in several.items() if not self.fits(seen) or not is_among(seen, self.table.get(part, Seen()))}
-            yield from (text_of(entry) for entry in lines if wrong and not wrong.isdisjoint(parts_of_entry(entry)))
+            yield from map(text_of, self.without_parts([entry for entry in self.table if entry.startswith(begin)], types))
+
+    def without_parts(self, lines: list[bytes], types: dict[bytes, bytes]) -> list[bytes]:
+        """Those of these entries of which more recordings are said than have one of its parts, by classes or by types."""
+        several = merge_tables(dict.fromkeys(parts_of_entry(entry), self.table[entry]) for entry in lines)
+        at_types = merge_tables({types.get(part, part): self.table[entry] for part in parts_of_entry(entry)} for entry in lines)
+        wrong = {part for part, seen in several.items() if not self.fits(seen) or not is_among(seen, self.table.get(part, Seen()))}
+        wrong |= {part for part in several for by_types in [types.get(part, part)] if not is_among(at_types[by_types], self.table.get(by_types, Seen()))}
+        return [entry for entry in lines if wrong and not wrong.isdisjoint(parts_of_entry(entry))]
 
     def locks(self) -> Iterator[str]:
         """Orders and marks of single locks that are of no recording, or not of one that has them."""
@@ -137,6 +147,13 @@ class Agreement:
             seen, number = self.table.get(entry_of(what), Seen()), number_of_words(line["recording"])
             if number not in self.lots or not seen.count or seen.is_whole and number not in seen.first:
                 yield " ".join(what)
+
+
+def types_of(orders: list[LockOrder], marks: list[tuple[bytes, bytes]]) -> dict[bytes, bytes]:
+    """For each order and mark by classes the same by types."""
+    classes, types = at_levels(orders, marks)
+    found = {classes[held] + kind + classes[taken]: types[held] + kind + types[taken] for held, kind, taken in orders}
+    return {**found, **{USED % mark + classes[key]: USED % mark + types[key] for mark, key in marks}}
 
 
 def is_among(seen: Seen, others: Seen) -> bool:

@@ -14,7 +14,6 @@ from ..base.words import bytes_of, counted, name_in, text_of, visible
 from ..program.checker import BY_LOCKS, REFUSED, ask
 from ..program.findings import Between, Finding, findings_said, numbered, take_records
 from ..program.verdicts import Judgement, Level, Verdict
-from ..record.complete import is_gathered
 from ..places.sources import Sources
 from ..say.found import Found
 from ..say.groups import groups_told
@@ -23,7 +22,7 @@ from .gathered import RECORDED, TRACE, TRACES, Gathered
 from .kept_places import MARKS, MOST_KEPT, KeptPlaces, Wanted, entry_of, events_of, text_of_file, wanted_of
 from .names import class_of, is_lock
 from .nights import words_of_lots
-from .orders import Number, Seen, number_of_words
+from .orders import Number, Seen
 from .places import OCCURRENCE, Recordings, parts_of
 from .timed import judge_timed
 from .whole import UNCOUNTED, Wholes
@@ -111,16 +110,9 @@ class Back:
 
     # ---- Where.
 
-    def is_at_hand(self, what: Wanted) -> bool:
-        """Whether the recording can be asked of which the places of an order or a mark are kept: then what others say of it isn't needed."""
-        number = number_of_words(self.kept.lines[what]["recording"])
-        return bool(self.recordings.look(number).traces) and not is_gathered(self.recordings.roots[number])
-
     def look(self, wanted: list[tuple[bool, Wanted]]) -> None:
-        """Looks for the records of each of these, in the first recording that is still there; several of one recording at once."""
+        """Looks for the records of each of these: in the first recording that is still there, several of one recording at once, and then among what was kept."""
         self.looked_for.update(wanted)
-        kept = [what for is_of_locks, what in wanted if not is_of_locks and what in self.kept.lines and not self.is_at_hand(what)]
-        self.places.update({(False, what): place for what in kept for place in [self.kept.place(what)] if place})
         left = {what: iter(self.seen(what[1], what[0]).first) for what in wanted if what not in self.places}
         asked_of: dict[Number, list[tuple[bool, Wanted]]] = {}
         numbers: list[Number] = []  # a heap of those of the latter
@@ -141,6 +133,8 @@ class Back:
                 self.places.update({(is_of_locks, what): place for what, place in found.items()})
                 self.found_in.update({} if is_of_locks else dict.fromkeys(found, first))
             ask_next(what for what in here if what not in self.places)
+        kept = [what for is_of_locks, what in wanted if not is_of_locks and (False, what) not in self.places]
+        self.places.update({(False, what): place for what in kept for place in [self.kept.place(what)] if place})
 
     def put(self, said: dict, is_of_locks: bool) -> None:
         """Puts recordings into a finding of the JSON."""
