@@ -2,6 +2,7 @@
 first one that is still there."""
 from __future__ import annotations
 
+import copy
 import json
 import os
 from heapq import heapify, heappop, heappush
@@ -12,7 +13,7 @@ from ..ask.verdict import Recorded, by_importance, type_of_key
 from ..base.saying import Refusal, typed
 from ..base.words import bytes_of, counted, name_in, text_of, visible
 from ..program.checker import BY_LOCKS, REFUSED, ask
-from ..program.findings import Between, Finding, findings_said, numbered, take_records
+from ..program.findings import Between, Finding, finding_of, findings_said, numbered, take_records
 from ..program.verdicts import Judgement, Level, Verdict
 from ..places.sources import Sources
 from ..say.found import Found
@@ -23,7 +24,7 @@ from .kept_places import MARKS, MOST_KEPT, KeptPlaces, Wanted, entry_of, events_
 from .names import class_of, is_lock
 from .nights import words_of_lots
 from .orders import Number, Seen
-from .places import OCCURRENCE, Recordings, parts_of
+from .places import OCCURRENCE, Places, Recordings, parts_of
 from .timed import judge_timed
 from .whole import UNCOUNTED, Wholes
 
@@ -136,6 +137,18 @@ class Back:
         kept = [what for is_of_locks, what in wanted if not is_of_locks and (False, what) not in self.places]
         self.places.update({(False, what): place for what in kept for place in [self.kept.place(what)] if place})
 
+    def of_each(self, findings: list[Finding]) -> Iterator[list[tuple[Finding, Finding]]]:
+        """For each recording that is named and is there the findings of which it has a part, each with the same one by that one's records."""
+        asked_of: dict[Number, list[Finding]] = {}
+        for finding in findings:
+            for number in sorted({number for what, _ in parts_of(finding.json) for number in self.seen(what, False).first}):
+                asked_of.setdefault(number, []).append(finding)
+        for number, several in sorted(asked_of.items()):
+            wanted = dict.fromkeys(what for finding in several for what, _ in parts_of(finding.json))
+            places = self.recordings.places(number, list(wanted), False)
+            if places:
+                yield [(finding, with_records(finding, places)) for finding in several]
+
     def put(self, said: dict, is_of_locks: bool) -> None:
         """Puts recordings into a finding of the JSON."""
         for what, part in parts_of(said):
@@ -152,6 +165,16 @@ def take_away(said: dict) -> None:
             part.pop(name, None)
     said.update({name: [] for name in ("notes", "gates") if name in said})
     said.pop("only", None)
+
+
+def with_records(finding: Finding, places: Places) -> Finding:
+    """The same finding with these records in the place of its own, without those of what was seen between single locks."""
+    said = {name: copy.deepcopy(value) for name, value in finding.json.items() if name != "between"}
+    for what, part in parts_of(said):
+        part.update(places.get(what, {}))
+    other = finding_of(finding.number, said)
+    other.judged, other.between = finding.judged, Between(finding.between.level, reason=finding.between.reason) if finding.between else None
+    return other
 
 
 def in_a_list(name: str) -> str:

@@ -10,7 +10,7 @@ from ..base.words import bytes_of, counted, text_of, visible
 from ..known.known import list_of, sort
 from ..known.suppressions import Entry, entries_of
 from ..places.sources import sources_of
-from ..program.findings import Finding
+from ..program.findings import Finding, numbered
 from ..record.losses import singular, words_of_loss
 from ..record.summary import Count, Summary
 from ..say.forms import text_of_form
@@ -61,7 +61,21 @@ class Told:
         self.sources = sources_of(findings, shown=line.values.get("--source", []), kept=back.kept.callers(), made=back.kept.classes())
         self.known = line.last("--known")
         self.sorted = sort(findings, [], entries, self.sources, [gathered.trace])
+        self.look_at_each(entries)
         self.accepted = line.values.get("--accept-left-out", [])
+
+    def look_at_each(self, entries: list[Entry]) -> None:
+        """A finding is known only if it is that by the places of each recording that is named for it, so none hides what another one has elsewhere."""
+        new = set(map(id, self.sorted.new))
+        for several in self.back.of_each(self.sorted.known):
+            others = [other for _, other in several]
+            there = sort(others, [], entries, sources_of(others), [self.gathered.trace])
+            self.sorted.stale = list(dict.fromkeys(self.sorted.stale + there.stale))
+            new_there = set(map(id, there.new))
+            new |= {id(finding) for finding, other in several if id(other) in new_there}
+        self.sorted.known = [finding for finding in self.findings if id(finding) not in new]
+        self.sorted.new = numbered([finding for finding in self.findings if id(finding) in new])
+        self.sorted.known_lines = min(self.sorted.known_lines, len({line for finding in self.sorted.known for line in finding.lines}))
 
     def tell(self, folder: str, forms: dict[str, str]) -> int:
         """Says it, and returns the status."""
