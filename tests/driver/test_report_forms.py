@@ -39,14 +39,14 @@ class Output(unittest.TestCase):
             self.assertEqual((raised.exception.status, raised.exception.line), (2, "the text can't be written"))
 
     def test_a_full_standard_output_of_diff_is_refused(self):
-        with mock.patch.object(diff, "sides_of", return_value=[Side("circle a/0 EN b/0", frozenset())]), \
+        with mock.patch.object(diff, "sides_of", return_value=([Side("circle a/0 EN b/0", frozenset())], "")), \
                 mock.patch.object(diff, "write_sides", side_effect=OSError(28, "No space left on device")):
             with self.assertRaises(Refusal) as raised:
                 diff.main(["one", "two"])
             self.assertEqual(raised.exception.status, 2)
 
     def test_a_reader_of_diff_that_has_enough_needs_no_message(self):
-        call = "from lockdep import parts; from lockdep.cli import diff; diff.sides_of = lambda name: [diff.Side('head', frozenset())] * 9999; " \
+        call = "from lockdep import parts; from lockdep.cli import diff; diff.sides_of = lambda name: ([diff.Side('head', frozenset())] * 9999, ''); " \
             "sys.exit(parts.run('diff', ['one', 'two']))"
         out, into = os.pipe()
         os.close(out)

@@ -14,6 +14,7 @@ if TYPE_CHECKING:
 
 NO_OBJECTS = "the recording has no traces of single locks"
 REFUSED_OBJECTS = "the traces of single locks were refused"
+TOO_MANY_LOCKS = (b"T6 TooManyKeys", b"M1 TooTangled")  # of these there are traces by classes, which say less
 
 
 class Asked:

@@ -6,19 +6,21 @@ import json
 import os
 import sys
 from dataclasses import dataclass, field, replace
+from typing import List, Tuple
 
-from ..ask.asking import ask_about
+from ..ask.asking import TOO_MANY_LOCKS, ask_about
 from ..ask.blocked import sources_wanted
 from ..ask.breaches import breaches_in
 from ..ask.verdict import Recorded
-from ..base.files import is_file, need_output, text_named, writing
+from ..base.files import complain, is_file, need_output, text_named, writing
 from ..base.saying import Refusal
-from ..base.words import class_of_lock, counted, name_in, type_of_class, visible
+from ..base.words import bytes_of, class_of_lock, counted, name_in, type_of_class, visible
 from ..binaries.cplusplus import without_parameters
 from ..gather.facts import Program
 from ..gather.findings import Back, InRecordings, findings_in
 from ..gather.agreement import gathered_in
-from ..gather.recordings import Bad, check_events, check_threads, summaries_of, traces_of
+from ..gather.gathered import LEFT
+from ..gather.recordings import Bad, check_events, check_threads, judge, summaries_of, traces_of
 from ..known.known import pattern_of
 from ..known.suppressions import pattern_text
 from ..places.sources import Sources, keys_of, sources_of
@@ -26,10 +28,12 @@ from ..places.where_made import Place, place_now, place_of
 from ..program.checker import program_path
 from ..program.findings import Finding, finding_of
 from ..record.complete import UNMADE, check_files, is_gathered, is_unmade, why_none
+from ..record.summary import Summary
 from ..say.terminal import Writer, text_stream
 from ..say.verdict_words import verdict_of
 from .options import no_option
 
+Read = Tuple[List["Side"], str]  # findings, and what is left out
 WHAT = "which is neither the folder of a recording or of `gather` nor JSON of `lockdep run --json`"
 
 
@@ -71,8 +75,9 @@ def places_of(finding: Finding, sources: Sources) -> dict[str, list[Place]]:
 
 def sides_of_folder(folder: str) -> list[Side]:
     asked = ask_about(folder)
-    if asked.is_refused or asked.left_out:
-        sys.stderr.buffer.write(asked.answer.said if asked.is_refused else asked.why_left_out)
+    is_damaged = asked.said and not any(code in asked.said for code in TOO_MANY_LOCKS)
+    if asked.is_refused or asked.left_out or is_damaged:
+        sys.stderr.buffer.write(asked.answer.said if asked.is_refused else asked.why_left_out or asked.said)
         raise Refusal("the traces of %s were refused" % visible(folder))
     findings = [finding for finding in asked.findings() if not finding.is_note]
     sources, recorded, breaches = sources_of(findings, [folder]), Recorded(asked.traces), breaches_in(folder)
@@ -102,24 +107,25 @@ def side_of_breach(said: dict) -> Side:
     return Side(said["sentence"], frozenset([pattern_text(said["type"], classes, functions[0] if functions else "")]))
 
 
-def sides_of_json(name: str) -> list[Side]:
+def sides_of_json(name: str) -> Read:
     """The findings of a file, with the places that it has."""
     try:
         said = json.loads(text_named(name, WHAT))
         findings = [side_of_json(number, finding) for number, finding in enumerate(said["findings"], 1) if not is_note(number, finding)]
-        return findings + [side_of_breach(breach) for breach in said.get("breaches", [])]
+        return findings + [side_of_breach(breach) for breach in said.get("breaches", [])], str(said.get("left_out", ""))
     except json.JSONDecodeError as error:
         raise Refusal("%s, %s, can't be read: line %d is no JSON: %s" % (visible(name), WHAT, error.lineno, visible(error.msg)))
     except (ValueError, KeyError, TypeError, AttributeError, RecursionError):
         raise Refusal("%s, %s, can't be read: it has something else than a finding" % (visible(name), WHAT))
 
 
-def sides_of_gathered(folder: str) -> list[Side]:
+def sides_of_gathered(folder: str) -> Read:
     program = Program(program_path())
     gathered = gathered_in(folder, program)
     back = Back(gathered, program)
     findings = [finding for finding in findings_in(gathered, back) if not finding.is_note]
-    return sides_of_findings(findings, InRecordings(gathered, back), sources_of(findings, shown=(), kept=back.kept.callers()))
+    left_out = "%s that can't be judged" % counted(gathered.count(LEFT), "recording") if gathered.count(LEFT) else ""
+    return sides_of_findings(findings, InRecordings(gathered, back), sources_of(findings, shown=(), kept=back.kept.callers())), left_out
 
 
 def sides_of_findings(findings: list[Finding], recorded: Recorded, sources: Sources) -> list[Side]:
@@ -127,17 +133,18 @@ def sides_of_findings(findings: list[Finding], recorded: Recorded, sources: Sour
             for finding in findings]
 
 
-def sides_of(name: str) -> list[Side]:
+def sides_of(name: str) -> Read:
+    """The findings of a recording, of what was gathered, or of a file, and what is left out there."""
     if is_gathered(name):
         return sides_of_gathered(name)
     if not os.path.isdir(name):
         return sides_of_json(name)
-    check_recording(name)
-    return sides_of_folder(name)
+    summaries = checked_recording(name)
+    return sides_of_folder(name), lost_in(name, summaries)
 
 
-def check_recording(folder: str) -> None:
-    """Refuses what is no recording, and what has less than was recorded. (Traces of single locks may be missing.)"""
+def checked_recording(folder: str) -> list[Summary]:
+    """The summary of a recording. What is none is refused, and what has less than was recorded. (Traces of single locks may be missing.)"""
     check_files(folder)
     if not is_file(os.path.join(folder, "SUMMARY")):
         raise Refusal(UNMADE % visible(folder) if is_unmade(folder) else "%s has no recording%s" % (visible(folder), why_none(folder)))
@@ -145,8 +152,19 @@ def check_recording(folder: str) -> None:
         summaries, traces = summaries_of(folder), traces_of(folder)
         check_threads(traces, summaries)
         check_events(traces, summaries)
+        return summaries
     except Bad as bad:
         raise Refusal("%s: %s" % (visible(folder), bad.why))
+
+
+def lost_in(folder: str, summaries: list[Summary]) -> str:
+    """What a recording left out, in words."""
+    try:
+        for summary in summaries:
+            judge(folder, summary, [])
+    except Bad as bad:
+        return bad.why
+    return ""
 
 
 def write_list(writer: Writer, word: str, sides: list[Side]) -> None:
@@ -169,10 +187,13 @@ def main(words: list[str]) -> int:
             raise Refusal(no_option("diff", word, []))
     if len(words) != 2:
         raise Refusal("which two recordings? lockdep diff OLD NEW")
-    old, new = map(sides_of, words)
+    (old, old_left_out), (new, left_out) = map(sides_of, words)
+    for name, what in zip(words, (old_left_out, left_out)):
+        if what:
+            complain(bytes_of("lockdep: not all of %s was checked: %s\n" % (visible(name), visible(what))))
     same = [side.beside(old) for side in new if any(side.is_same(other) for other in old)]
     fresh = [side for side in new if not any(side.is_same(other) for other in old)]
     gone = [side for side in old if not any(side.is_same(other) for other in new)]
     with writing():
         write_sides(fresh, gone, same)
-    return 1 if fresh else 0
+    return 1 if fresh else 2 if left_out else 0
