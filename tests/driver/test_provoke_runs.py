@@ -377,8 +377,10 @@ class WhatCouldEndIt(unittest.TestCase):
 
     def test_what_a_shell_has_left_is_of_the_run(self) -> None:
         """Not what another child of this command has started, as the load of a server."""
-        with mock.patch.multiple(standing, children_of=lambda _: [5, 6, 7], session_of=lambda process: {5: 5, 6: 5, 7: 7}[process], descendants=lambda process: [10 * process]):
-            self.assertEqual(standing.left_by(5), [6, 60])
+        given = {"/proc/8/environ": b"HOME=/\0LOCKDEP_PROVOKE_TABLE=table\0"}
+        with mock.patch.multiple(standing, children_of=lambda _: [5, 6, 7, 8], session_of=lambda process: {5: 5, 6: 5, 7: 7, 8: 8}[process],
+                                 descendants=lambda process: [10 * process], contents=given.get):
+            self.assertEqual(standing.left_by(5), [6, 60, 8, 80])
 
     def test_a_signal_that_all_threads_block_ends_nothing(self) -> None:
         """As that of a timer whose handler is where the only thread stands."""

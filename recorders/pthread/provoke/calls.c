@@ -24,7 +24,8 @@ static bool is_planned;
 /* The C library has two versions of functions that wait for conditions, of which programs call the second. */
 #define CONDITION_VERSION "GLIBC_2.3.2"
 
-/* What the C library writes into its locks: that processes share a mutex, of which kind it is, and that something has run once. */
+/* What the C library writes into its locks: that a mutex is robust, that processes share it, of which kind it is, and that something has run once. */
+#define ROBUST 16
 #define OF_PROCESSES 128
 #define KIND_OF_MUTEX 3
 #define ONCE_DONE 2
@@ -226,12 +227,13 @@ typedef const struct timespec *deadline;
 
 /* ---- Mutexes. */
 
-/* A mutex that is recursive, or looks for errors, refuses to be released by another thread than its holder. */
+/* A mutex that is recursive, or looks for errors, refuses to be released by another thread than its holder. The system releases a robust one when its
+   holder has ended, which others may see to. */
 static struct asked mutex(const pthread_mutex_t *lock, enum mode mode, uintptr_t caller) {
     int flags = lock->__data.__kind, kind = flags & KIND_OF_MUTEX;
     bool is_strict = kind == PTHREAD_MUTEX_RECURSIVE || kind == PTHREAD_MUTEX_ERRORCHECK;
     return ASKED(flags & OF_PROCESSES ? number_of_lock(lock) : (uint64_t)(uintptr_t)lock, mode, CALL_LOCK,
-                 is_strict ? RELEASED_BY_HOLDER : RELEASED_BY_MISTAKE);
+                 flags & ROBUST ? RELEASED_BY_OTHERS : is_strict ? RELEASED_BY_HOLDER : RELEASED_BY_MISTAKE);
 }
 
 TAKING(mutex, pthread_mutex_lock, pthread_mutex_trylock, MODE_WRITE, pthread_mutex_t, EBUSY)

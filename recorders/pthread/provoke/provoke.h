@@ -28,8 +28,8 @@ enum state { STATE_RUNS, STATE_STANDS, STATE_WAITS };
 /* What it waits in. A wait for a condition is one for the lock that it takes again; one for a thread's end is for that thread's `self`. */
 enum call { CALL_LOCK, CALL_SPIN, CALL_CONDITION, CALL_JOIN, CALL_ONCE, CALL_SEMAPHORE };
 
-/* What the recorders of Python and Java add to that: another thread can end the wait by an interrupt; no handler of a signal can, since none runs in
-   such a thread. */
+/* What is added to that: another thread can end the wait, by an interrupt or a cancellation; no handler of a signal can, since none runs in such a
+   thread of Python or Java. */
 #define CALL_INTERRUPTIBLE 0x10
 #define CALL_WITHOUT_HANDLERS 0x20
 

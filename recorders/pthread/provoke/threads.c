@@ -219,7 +219,7 @@ static void note_wanted(const struct asked *asked, enum state state) {
     for (int i = 0; i < asked->stack.depth; i++)
         mine->callers[i] = asked->stack.callers[i];
     mine->mode = asked->mode;
-    mine->call = asked->call;
+    mine->call = asked->call | (asked->call == CALL_JOIN ? CALL_INTERRUPTIBLE : 0); /* (a join ends if its thread is cancelled) */
     mine->point = asked->point;
     STORE(&mine->awaited, asked->lock);
     STORE(&mine->state, state);

@@ -22,6 +22,7 @@ LOOK = 0.02  # seconds from one look to the next
 LONGEST_LOOK = 2 * LOOK  # that counts: where the machine stood meanwhile, what could end a standstill stood too
 LOOKS_STILL = 0.2  # seconds after which it is said that threads stood, if they go on later
 WAITS_IN = {IN_CONDITION: "to be woken", IN_JOIN: "for a thread's end", IN_ONCE: "for what runs once", IN_SEMAPHORE: "for a semaphore", IN_SPIN: "for a spin lock"}
+OF_RUN = b"LOCKDEP_PROVOKE_TABLE="  # is in the environment of each process of a run
 OF_THE_SYSTEM = ("libc.so", "libpthread.so", "ld-linux")  # modules whose functions begin each thread
 HANDLED = "may send a signal that has a handler: %s"
 CAUGHT, IGNORED, BLOCKED = b"SigCgt:", b"SigIgn:", b"SigBlk:"  # begin lines of what the system says of a process, and of a thread
@@ -156,8 +157,14 @@ def first_of_run(process: int) -> int:
 
 def left_by(first: int) -> list[int]:
     """The processes of a run whose own parents have ended, as what a shell has left in the background, with those that they have started."""
-    left = [child for child in children_of(os.getpid()) if child != first and session_of(child) == session_of(first)]
+    left = [child for child in children_of(os.getpid()) if child != first and is_of_run(child, first)]
     return [each for child in left for each in [child, *descendants(child)]]
+
+
+def is_of_run(child: int, first: int) -> bool:
+    """Whether another child of this command is of the run that began with the first one, and not of the load beside it: by its session, or, if it has begun
+    its own as a daemon does, by what every process of a run is given."""
+    return session_of(child) == session_of(first) or OF_RUN in (contents("/proc/%d/environ" % child) or b"")
 
 
 def going_beside(stuck: set[int], others: set[int]) -> set[int]:
