@@ -3,6 +3,9 @@ lock is used in an interrupt to where one is taken with these on. They are kept 
 or in none."""
 from __future__ import annotations
 
+from functools import reduce
+from itertools import chain, compress
+from operator import and_
 from typing import Dict, Iterable, List, Set, Tuple
 
 from .names import BETWEEN, WHOLE
@@ -92,11 +95,25 @@ class Wholes:
         self.of_types: dict[bytes, list[list[int]]] = {}
         for part, places in self.places.items():
             self.of_types.setdefault(entry_of_types(part), []).append(places)
+        self.bits_of: dict[tuple[bytes, bool], int] = {}
+        self.seen_by_bits: dict[int, Seen] = {}  # many findings are of the same entries
+
+    def bits(self, part: bytes, is_of_types: bool) -> int:
+        """A bit for each entry that has an order or a mark."""
+        if (part, is_of_types) not in self.bits_of:
+            bits = bytearray(len(self.seen_of) // 8 + 1)
+            for place in chain.from_iterable(self.of_types.get(part, ()) if is_of_types else [self.places.get(part, [])]):
+                bits[place // 8] |= 1 << place % 8
+            self.bits_of[part, is_of_types] = int.from_bytes(bits, "little")
+        return self.bits_of[part, is_of_types]
 
     def seen(self, wanted: set[bytes], is_of_types: bool) -> Seen:
         """The recordings that have all of these orders and marks, which are by types, or by classes."""
-        several = [set().union(*self.of_types.get(each, ())) if is_of_types else set(self.places.get(each, ())) for each in wanted]
-        return merge_tables({WHOLE: self.seen_of[place]} for place in sorted(set.intersection(*several))).get(WHOLE, Seen())
+        bits = reduce(and_, (self.bits(part, is_of_types) for part in wanted))
+        if bits not in self.seen_by_bits:
+            those = compress(self.seen_of, map(int, reversed(bin(bits)[2:])))
+            self.seen_by_bits[bits] = merge_tables({WHOLE: seen} for seen in those).get(WHOLE, Seen())
+        return self.seen_by_bits[bits]
 
 
 def entry_of_types(entry: bytes) -> bytes:
