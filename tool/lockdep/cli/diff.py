@@ -19,7 +19,8 @@ from ..binaries.cplusplus import without_parameters
 from ..gather.facts import Program
 from ..gather.findings import Back, InRecordings, findings_in
 from ..gather.agreement import gathered_in
-from ..gather.gathered import LEFT
+from ..gather.gathered import LEFT, Gathered
+from ..gather.told import SAID, UNGATHERED
 from ..gather.recordings import Bad, check_events, check_threads, judge, summaries_of, traces_of
 from ..known.known import pattern_of
 from ..known.suppressions import pattern_text
@@ -111,7 +112,7 @@ def sides_of_json(name: str) -> Read:
     """The findings of a file, with the places that it has."""
     try:
         said = json.loads(text_named(name, WHAT))
-        findings = [side_of_json(number, finding) for number, finding in enumerate(said["findings"], 1) if not is_note(number, finding)]
+        findings = [side_of_json(number, finding) for number, finding in enumerate(list_in(said, "findings"), 1) if not is_note(number, finding)]
         return findings + [side_of_breach(breach) for breach in said.get("breaches", [])], str(said.get("left_out", ""))
     except json.JSONDecodeError as error:
         raise Refusal("%s, %s, can't be read: line %d is no JSON: %s" % (visible(name), WHAT, error.lineno, visible(error.msg)))
@@ -119,13 +120,26 @@ def sides_of_json(name: str) -> Read:
         raise Refusal("%s, %s, can't be read: it has something else than a finding" % (visible(name), WHAT))
 
 
+def list_in(said: dict, name: str) -> list:
+    if not isinstance(said[name], list):
+        raise TypeError("it is no list")
+    return said[name]
+
+
 def sides_of_gathered(folder: str) -> Read:
     program = Program(program_path())
     gathered = gathered_in(folder, program)
     back = Back(gathered, program)
     findings = [finding for finding in findings_in(gathered, back) if not finding.is_note]
-    left_out = "%s that can't be judged" % counted(gathered.count(LEFT), "recording") if gathered.count(LEFT) else ""
-    return sides_of_findings(findings, InRecordings(gathered, back), sources_of(findings, shown=(), kept=back.kept.callers())), left_out
+    sources = sources_of(findings, shown=(), kept=back.kept.callers(), made=back.kept.classes())
+    return sides_of_findings(findings, InRecordings(gathered, back), sources), "; ".join(unseen_in(gathered))
+
+
+def unseen_in(gathered: Gathered) -> list[str]:
+    """What a gathered folder says nothing more of, in words."""
+    said = {LEFT: "that can't be judged", b"breaches": SAID[b"breaches"], UNGATHERED.encode(): "whose signal handlers weren't looked at"}
+    seen = {name: gathered.counts.get(name) or gathered.lists.get(name) for name in said}
+    return ["%s %s" % (counted(seen[name].count, "recording"), words) for name, words in said.items() if seen[name] and seen[name].count]
 
 
 def sides_of_findings(findings: list[Finding], recorded: Recorded, sources: Sources) -> list[Side]:

@@ -246,8 +246,13 @@ def facts_of_gathered(task: Task, number: int, folder: str) -> Facts:
     facts.lists = {**facts.lists, **below(part.lists, above)}
     facts.listed = [listed._replace(number=above + listed.number) for listed in part.listed]
     facts.places = lines_in(text_of_lines(part.places), above)
-    facts.sums = facts.sums if facts.listed else {}  # (all of it is forgotten)
+    facts.sums = {above: sum_of(part)} if facts.listed else {}  # (all of it is forgotten)
     return facts
+
+
+def sum_of(part: Facts) -> int:
+    """The sum of all that a gathered folder says."""
+    return zlib.crc32(part.digest.encode())
 
 
 def below(table: Table, above: tuple[int, ...]) -> Table:

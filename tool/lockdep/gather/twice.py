@@ -1,12 +1,11 @@
 """Recordings that are named and are in a folder that was gathered before, too. The folder that others are added to has read its own recordings itself: one of
 these counts once, if it is what it was then. It is known by its real path, its night and its build, and by the sum of its condensed trace, since another one
-may have its path by now; and a gathered folder by its own recordings, too. What any other folder says of a recording is its claim alone: so that counts in
+may have its path by now; and a gathered folder by the sum of all that it says. What any other folder says of a recording is its claim alone: so that counts in
 each, and speaks for itself."""
 from __future__ import annotations
 
 import functools
 import os
-import zlib
 
 from ..base.saying import Refusal
 from ..base.words import visible
@@ -15,7 +14,7 @@ from .facts import Facts
 from .gathered import Listed
 from .names import is_lock, keys_in, name_in_recording, name_of_key, quoted, rest_of, with_names
 from .orders import Number, facts_in
-from .recordings import Bad, Task, facts_of, kept_part
+from .recordings import Bad, Task, facts_of, kept_part, sum_of
 from .memory import limited_memory, used_memory
 from .timed import renamed, timed_orders
 
@@ -26,7 +25,7 @@ class Earlier:
     def __init__(self, folder: str, task: Task) -> None:
         part = kept_part(folder, task, has_places=False)
         self.folder, self.listed, self.lots, self.digest = folder, part.listed, part.lots, part.digest
-        self.sum = str(zlib.crc32(part.texts[0]))
+        self.sum = str(sum_of(part))
         self.by_path: dict[str, list[Listed]] = {}
         for listed in part.listed:
             self.by_path.setdefault(os.path.realpath(listed.path), []).append(listed)
