@@ -12,7 +12,7 @@ from ..ask.asking import TOO_MANY_LOCKS, ask_about
 from ..ask.blocked import sources_wanted
 from ..ask.breaches import breaches_in
 from ..ask.verdict import Recorded
-from ..base.files import complain, is_file, need_output, text_named, writing
+from ..base.files import complain, need_output, text_named, writing
 from ..base.saying import Refusal
 from ..base.words import bytes_of, class_of_lock, counted, name_in, type_of_class, visible
 from ..binaries.cplusplus import without_parameters
@@ -28,7 +28,7 @@ from ..places.sources import Sources, keys_of, sources_of
 from ..places.where_made import Place, place_now, place_of
 from ..program.checker import program_path
 from ..program.findings import Finding, finding_of
-from ..record.complete import UNMADE, check_files, is_gathered, is_unmade, why_none
+from ..record.complete import check_files, is_gathered, need_recording
 from ..record.summary import Summary
 from ..say.terminal import Writer, text_stream
 from ..say.verdict_words import verdict_of
@@ -160,8 +160,7 @@ def sides_of(name: str) -> Read:
 def checked_recording(folder: str) -> list[Summary]:
     """The summary of a recording. What is none is refused, and what has less than was recorded. (Traces of single locks may be missing.)"""
     check_files(folder)
-    if not is_file(os.path.join(folder, "SUMMARY")):
-        raise Refusal(UNMADE % visible(folder) if is_unmade(folder) else "%s has no recording%s" % (visible(folder), why_none(folder)))
+    need_recording(folder)
     try:
         summaries, traces = summaries_of(folder), traces_of(folder)
         check_threads(traces, summaries)

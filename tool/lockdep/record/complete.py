@@ -72,18 +72,25 @@ def why_none(folder: str) -> str:
     return ": it has neither a file SUMMARY nor a file %s" % GATHERED if names else ""
 
 
+def need_recording(folder: str) -> None:
+    """Refuses a folder that has no recording, or one whose traces weren't made."""
+    name = visible(folder)
+    if is_file(os.path.join(folder, "SUMMARY")):
+        return
+    if is_gathered(folder):
+        raise Refusal(OF_GATHER % name)
+    if is_unmade(folder):
+        raise Refusal(UNMADE % name)
+    raise Refusal("%s has no recording%s" % (name, why_none(folder)))
+
+
 def check_folder(folder: str) -> None:
     """Refuses a folder whose recording isn't all there, or can't be read."""
     name = visible(folder)
     if os.path.isdir(folder) and not os.access(folder, os.R_OK | os.X_OK):
         raise Refusal("%s can't be read: %s" % (name, os.strerror(errno.EACCES)))
     check_files(folder)
-    if not is_file(os.path.join(folder, "SUMMARY")):
-        if is_gathered(folder):
-            raise Refusal(OF_GATHER % name)
-        if is_unmade(folder):
-            raise Refusal(UNMADE % name)
-        raise Refusal("%s has no recording%s" % (name, why_none(folder)))
+    need_recording(folder)
     for line in text_in(os.path.join(folder, LISTED)).split("\n"):
         is_trace = line.endswith(".csv") and line.startswith(("task-", OBJECTS + "/task-", SIGNALS + "/"))
         if is_trace and not os.path.exists(os.path.join(folder, line)):
