@@ -2,6 +2,7 @@
 names and by where their locks are made; and so what the programs did against what they say of their locks, by its classes and function."""
 from __future__ import annotations
 
+import gc
 import json
 import os
 import sys
@@ -54,11 +55,21 @@ class Side:
         return self.lines == other.lines and all(
             any(not one.is_elsewhere(another) for one in self.places[name] for another in other.places[name]) for name in shared)
 
-    def beside(self, old: list[Side]) -> Side:
+    def same_in(self, others: dict[frozenset[str], list[Side]]) -> Side | None:
+        """The first of the others that is the same finding."""
+        return next((other for other in others.get(self.lines, ()) if self.is_same(other)), None)
+
+    def beside(self, before: Side) -> Side:
         """The same finding with what its verdict was before, if that was another one."""
-        before = next(other for other in old if self.is_same(other))
         is_other = before.verdict != self.verdict and before.verdict and self.verdict
         return replace(self, seen="%s; it was %s" % (self.seen, before.verdict)) if is_other else self
+
+
+def by_lines(sides: list[Side]) -> dict[frozenset[str], list[Side]]:
+    several: dict[frozenset[str], list[Side]] = {}
+    for side in sides:
+        several.setdefault(side.lines, []).append(side)
+    return several
 
 
 def side_of_finding(finding: Finding, seen: str, verdict: str, places: dict[str, list[Place]]) -> Side:
@@ -194,6 +205,7 @@ def write_sides(fresh: list[Side], gone: list[Side], same: list[Side]) -> None:
 
 
 def main(words: list[str]) -> int:
+    gc.disable()  # (as `gather` does, whose findings these may be)
     need_output()
     for word in words:
         if word.startswith("-") and not os.path.exists(word):
@@ -204,9 +216,11 @@ def main(words: list[str]) -> int:
     for name, what in zip(words, (old_left_out, left_out)):
         if what:
             complain(bytes_of("lockdep: not all of %s was checked: %s\n" % (visible(name), visible(what))))
-    same = [side.beside(old) for side in new if any(side.is_same(other) for other in old)]
-    fresh = [side for side in new if not any(side.is_same(other) for other in old)]
-    gone = [side for side in old if not any(side.is_same(other) for other in new)]
+    known, there = by_lines(old), by_lines(new)
+    before = [(side, side.same_in(known)) for side in new]
+    same = [side.beside(other) for side, other in before if other]
+    fresh = [side for side, other in before if not other]
+    gone = [side for side in old if not side.same_in(there)]
     with writing():
         write_sides(fresh, gone, same)
     return 1 if fresh else 2 if left_out else 0

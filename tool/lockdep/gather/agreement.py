@@ -158,7 +158,8 @@ def types_of(orders: list[LockOrder], marks: list[tuple[bytes, bytes]]) -> dict[
 
 def is_among(seen: Seen, others: Seen) -> bool:
     """Whether these recordings may all be among others."""
-    return not Counter(dict(seen.lots)) - Counter(dict(others.lots)) and (not others.is_whole or set(seen.first) <= set(others.first))
+    there = dict(others.lots)
+    return all(count <= there.get(lot, 0) for lot, count in seen.lots) and (not others.is_whole or set(seen.first) <= set(others.first))
 
 
 def parts_of_entry(entry: bytes) -> list[bytes]:

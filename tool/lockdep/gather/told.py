@@ -7,7 +7,7 @@ import tempfile
 from ..base.command_line import Words
 from ..base.files import STANDARD_OUTPUT, complain, text_in, text_named, write_form, write_in_place, writing
 from ..base.words import bytes_of, counted, text_of, visible
-from ..known.known import list_of, sort
+from ..known.known import list_of, sort, with_others
 from ..known.suppressions import Entry, entries_of
 from ..places.sources import sources_of
 from ..program.findings import Finding, numbered
@@ -130,10 +130,15 @@ class Told:
     # ---- Findings.
 
     def write_known(self) -> None:
-        """Writes the list of what was found, in which the comments of an earlier one stay."""
-        name = self.line.last("--write-known")
-        if name:
-            write_form(name, list_of(self.findings, text_in(name), self.sources, [self.gathered.trace], name=name))
+        """Writes the list of what was found, with an entry for each place that it has in recordings. The comments of an earlier one stay."""
+        name, traces = self.line.last("--write-known"), [self.gathered.trace]
+        if not name:
+            return
+        text = list_of(self.findings, text_in(name), self.sources, traces, name=name)
+        for several in self.back.of_each(self.findings):
+            others = [other for _, other in several]
+            text = with_others(text, others, sources_of(others), traces, name)
+        write_form(name, text)
 
     def write_text(self) -> None:
         with writing():

@@ -173,7 +173,8 @@ def list_of(findings: list[Finding], old: str, sources: Sources, traces: list[st
               for line in finding.lines}
     for number, line in enumerate(old.split("\n")[:-1] if old.endswith("\n") else old.split("\n") if old else [], 1):
         entry = entries.get(number)
-        if entry and not entry.is_pattern and entry.line not in of_lines or is_comment_of_entry(line):
+        is_surplus = entry and not entry.is_pattern and listed[entry.line] >= handlers_of(of_lines.get(entry.line, []))
+        if is_surplus or is_comment_of_entry(line):
             continue
         kept.append(line)
         listed.update([entry.line] if entry else [])
@@ -186,3 +187,10 @@ def list_of(findings: list[Finding], old: str, sources: Sources, traces: list[st
     kept += dict.fromkeys(pattern_of(breach, sources) for breach in breaches
                           if not any(fits_blocked(entry, breach, sources) for entry in patterns))
     return "".join(line + "\n" for line in kept)
+
+
+def with_others(text: str, findings: list[Finding], sources: Sources, traces: list[str], name: str) -> str:
+    """A list with an entry more for each line of those findings that its entries don't hide, as they are of a recording whose locks are made elsewhere."""
+    new = sort(findings, [], entries_of(text, name), sources, traces).new
+    comments = Comments(new, TakingPart(sources, list(traces)))
+    return text + "".join(each + "\n" for line in report_lines(new) for each in [visible(line)] + comments.of(line))

@@ -32,21 +32,23 @@ class Judge:
         return entry.is_expired(self.date)
 
     def fresh(self, entries: list[Entry]) -> list[Entry]:
-        """The entries that may hide something. What makes others stale is noted."""
-        self.listed = Counter(entry.line for entry in entries if not self.is_expired(entry))
-        fresh = [entry for entry in entries if self.is_fresh(entry)]
-        self.moved = list(dict.fromkeys(self.moved))
+        """The entries that may hide something. What makes others stale is noted, unless another entry of the same line hides it: a list has one for each
+        place that recordings of one program have."""
+        elsewhere = {entry.number: self.other_places(entry) if entry.line in self.findings else [] for entry in entries}
+        self.listed = Counter(entry.line for entry in entries if not self.is_expired(entry) and not elsewhere[entry.number])
+        reasons = {entry.number: self.reasons(entry, elsewhere[entry.number]) for entry in entries}
+        fresh = [entry for entry in entries if not reasons[entry.number]]
+        hidden = {entry.line for entry in fresh if not entry.is_pattern}
+        self.stale = ["line %d, `%s`: %s, so that entry hides nothing; %s" % (
+            entry.number, entry.text, "; ".join(reasons[entry.number]), CHANGE if self.is_expired(entry) else RENEW)
+            for entry in entries if reasons[entry.number] and (self.is_expired(entry) or entry.line not in hidden)]
+        self.moved = list(dict.fromkeys(name for entry in fresh if entry.line in self.findings for name in self.moved_names(entry)))
         return fresh
 
-    def is_fresh(self, entry: Entry) -> bool:
-        reasons = ["it was meant until %s" % entry.until] if self.is_expired(entry) else []
-        more = self.other_places(entry) + self.stronger(entry) + self.more_handlers(entry) if entry.line in self.findings else []
-        if reasons or more:
-            self.stale.append("line %d, `%s`: %s, so that entry hides nothing; %s" % (
-                entry.number, entry.text, "; ".join(reasons + more), CHANGE if reasons else RENEW))
-        elif entry.line in self.findings:
-            self.moved += self.moved_names(entry)
-        return not (reasons or more)
+    def reasons(self, entry: Entry, elsewhere: list[str]) -> list[str]:
+        """Why an entry is stale; nothing if it isn't."""
+        expired = ["it was meant until %s" % entry.until] if self.is_expired(entry) else []
+        return expired + elsewhere + (self.stronger(entry) + self.more_handlers(entry) if entry.line in self.findings else [])
 
     # ---- Places.
 

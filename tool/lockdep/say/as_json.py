@@ -19,6 +19,7 @@ from ..record.threads import name_of_thread
 from .found import Found
 
 VERSION = 3
+PARTS = (dict, list)
 ESCAPED = re.compile("[%s]" % "".join("%c-%c" % those for those in HIDDEN))
 
 
@@ -56,15 +57,17 @@ def with_places(said: object, found: Found) -> object:
     """A value of the checker's JSON, in which each occurrence has its places: `places` of its record, and `since_places`; and the name
     of its `thread`, if that is known. In which traces an order is stays as it was."""
     if isinstance(said, list):
-        return [with_places(value, found) for value in said]
+        return [with_places(value, found) if isinstance(value, PARTS) else value for value in said]
     if not isinstance(said, dict):
         return said
-    made = {name: value if name == "traces" else with_places(value, found) for name, value in said.items()}
+    made = {name: with_places(value, found) if isinstance(value, PARTS) and name != "traces" else value for name, value in said.items()}
+    if "file" not in said:
+        return made
     for name, places in (("record", "places"), ("since", "since_places")):
         event = event_of(said, name)
         if event:
             made[places] = frames_of(event, found)
-    thread = name_of_thread(str(said.get("file", "")))
+    thread = name_of_thread(str(said["file"]))
     return dict(made, thread=thread) if thread else made
 
 
