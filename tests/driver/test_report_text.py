@@ -14,6 +14,7 @@ from lockdep.ask.blocked import blocked_threads
 from lockdep.base.words import class_of_lock, stands_for_several, type_of_class, visible
 from lockdep.binaries.cplusplus import Demangler, without_parameters
 from lockdep.binaries.elf import within_functions
+from lockdep.binaries.line_tables import files_of
 from lockdep.binaries.symbols import Address, Symbols, frame_of, place_words, source_frame
 from lockdep.places.places import key_of_record, made_of, record_lines
 from lockdep.record.summary import Summary, parse
@@ -144,6 +145,35 @@ class Stripped(unittest.TestCase):
                     symbols.want(place)
                 symbols.ask()
                 self.assertEqual([place_words(symbols.frames(place)) for place in places.values()], words)
+
+    def test_a_function_of_a_header_has_its_file(self):
+        """Of the first file of a unit's table addr2line has another one, if that is a header."""
+        with tempfile.TemporaryDirectory() as room:
+            for name, text in (("x.h", "static int add(int x) {\n    return x + 1;\n}\n"), ("x.c", '#include "x.h"\nint main(int n, char **v) {\n    return add(n);\n}\n')):
+                with open(os.path.join(room, name), "w") as file:
+                    file.write(text)
+            program, source = os.path.join(room, "x"), os.path.join(room, "x.c")
+            for options in ([], ["-ffunction-sections"], ["-gz"], ["-gdwarf-4"]):
+                subprocess.run(["cc", "-g", "-O0", *options, "-o", program, source], check=True)
+                self.assertEqual(self.places(program), ["add at x.h:1", "main at x.c:2"], options)
+            with open(program, "rb") as file:
+                whole = file.read()
+            subprocess.run(["cc", "-g", "-O0", "-c", "-o", program, source], check=True)
+            self.assertEqual(files_of(program, [4]), {})  # (whose addresses aren't known yet)
+            for size in range(0, len(whole), 61):
+                with open(program, "wb") as file:
+                    file.write(whole[:size] + bytes(61) + whole[size + 61:])
+                files_of(program, range(0x1100, 0x1200))  # (says something, or nothing)
+
+    def places(self, program):
+        """Where the functions of a program are by addr2line alone."""
+        said = subprocess.run(["nm", program], stdout=subprocess.PIPE, check=True).stdout.decode().split("\n")
+        at = {line.split()[2]: int(line.split()[0], 16) for line in said if len(line.split()) == 3}
+        symbols, places = Symbols(reader=""), [Address(program, at[name] + 2) for name in ("add", "main")]
+        for place in places:
+            symbols.want(place)
+        symbols.ask()
+        return [place_words(symbols.frames(place)) for place in places]
 
     def test_a_file_of_another_kind_has_no_functions(self):
         self.assertEqual(within_functions(__file__, [1]), set())

@@ -2,9 +2,10 @@
 from __future__ import annotations
 
 import struct
+import zlib
 from bisect import bisect_left
 from itertools import chain
-from typing import BinaryIO, Iterator, NamedTuple
+from typing import BinaryIO, Iterable, Iterator, NamedTuple
 
 from ..base.files import is_file
 from ..base.words import bytes_of
@@ -21,6 +22,8 @@ DEBUG_INFORMATION = b"\0.debug_info\0"
 FUNCTIONS = (2, 10)  # functions, and such as are chosen when they are loaded
 MOST_OF_TABLE = 1 << 28  # bytes
 UNDEFINED = 0
+COMPRESSED, OF_COMPRESSED = 0x800, struct.Struct("<IIQQ")  # a flag of a section, and what it begins with then
+RELOCATABLE = 1  # the type of a file whose addresses the linker has yet to fill in
 
 
 class Section(NamedTuple):
@@ -53,6 +56,24 @@ def machine_and_sections(file: BinaryIO) -> tuple[int, list[Section]]:
     file.seek(offset)
     sections = file.read(size * count)
     return machine, [Section(*words) for words in SECTION.iter_unpack(sections[:len(sections) - len(sections) % size])]
+
+
+def linked_sections(module: str, names: Iterable[bytes]) -> dict[bytes, bytes]:
+    """What those sections of these names have that are there, but for a file that the linker has yet to go through; OSError, ValueError or zlib.error if it
+    can't be read."""
+    with open(bytes_of(module), "rb") as file:
+        kind = int.from_bytes(file.read(18)[16:], "little")
+        file.seek(0)
+        sections = [] if kind == RELOCATABLE else machine_and_sections(file)[1]
+        tables = [section.content(file) for section in sections if section.kind == NAMES]
+        table = next((table for table in tables if all(b"\0%s\0" % name in table for name in names)), b"")
+        found = {table[section.name:table.find(b"\0", section.name)]: section for section in sections}
+        return {name: inflated(found[name], file) for name in names if name in found}
+
+
+def inflated(section: Section, file: BinaryIO) -> bytes:
+    content = section.content(file)
+    return zlib.decompressobj().decompress(content[OF_COMPRESSED.size:], MOST_OF_TABLE) if section.flags & COMPRESSED else content
 
 
 def build_id_of(module: str) -> str:

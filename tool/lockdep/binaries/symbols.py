@@ -1,6 +1,6 @@
 """Where addresses are in the source: for each module the recorder's reader of debug information is asked, after all addresses were gathered, and
 addr2line about what that doesn't know. The reader comes first, since addr2line reads some of the debug information of gcc and clang in a wrong way,
-and no split files."""
+and no split files; of which file code is, `line_tables.py` says of what addr2line knows."""
 from __future__ import annotations
 
 import os
@@ -13,6 +13,7 @@ from ..base.home import HOME
 from ..base.tools import PATIENCE, other_answer
 from ..base.words import CALLED_FROM, bytes_of, text_of
 from .cplusplus import demangled, short_function
+from .line_tables import files_of
 
 # A place in words: FILE:LINE, and the function if it is known. Of a FILE that has SHOWN_FROM in it what is behind that is shown, as the path
 # below the folder of a kernel's source; otherwise its name.
@@ -141,7 +142,8 @@ class Symbols:
         if addresses and is_file(module):
             words = ["addr2line", "-a", "-i", "-f", "-C", b"--exe=" + bytes_of(module)]
             said = other_answer(words, listed(addresses), patience)
-        self.take(module, addresses, text_of(said or b"").split("\n"))
+        lines = text_of(said or b"").split("\n")
+        self.take(module, addresses, lines, files_of(module, addresses.keys() - self.data.get(module, ())) if any(lines) else {})
         self.drop_nearest(module, addresses)
 
     def ask_reader(self, module: str, addresses: dict[int, str], patience: int) -> None:
@@ -167,9 +169,9 @@ class Symbols:
             if frame.path:
                 self.answers[module, address] = [frame]
 
-    def take(self, module: str, addresses: dict[int, str], lines: list[str]) -> None:
-        """Reads the output: for each address a line with it, and then two lines for each function. What has others, as by a line break in a path, is
-        unknown."""
+    def take(self, module: str, addresses: dict[int, str], lines: list[str], files: dict[int, str] = {}) -> None:
+        """Reads the output: for each address a line with it, and then two lines for each function, of the first of which the file may be known better. What
+        has others, as by a line break in a path, is unknown."""
         heads, said, own = {"0x%016x" % address: address for address in addresses}, {address: [] for address in addresses}, []
         for line in lines[:-1]:
             if line in heads:
@@ -178,6 +180,8 @@ class Symbols:
                 own.append(line)
         for address, own in said.items():
             is_whole = len(own) % 2 == 0 and all(map(SAID_PLACE.fullmatch, own[1::2]))
+            if address in files and is_whole and own:
+                own[1] = "%s:%s" % (files[address], own[1].rpartition(":")[2])
             frames = [frame_of(function, place, addresses[address]) for function, place in zip(own[::2], own[1::2])] if is_whole else []
             self.answers[module, address] = frames or [Frame("", "", 0, addresses[address])]
 
