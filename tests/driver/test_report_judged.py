@@ -217,9 +217,9 @@ class Forms(OfRings):
         self.assertIn("<h3>The recorded steps that stand still, in another order</h3>\n", text)
         table = text.partition("in another order</h3>")[2].partition("</table>")[0]
         self.assertIn('<th scope="col">Thread 2</th><th scope="col">Thread 1</th>', table)
-        self.assertIn('<tr><td class="time">1</td><td data-task="Thread 2"><span class="takes">takes b#2</span><br><a href="#record-1-1">run at server.c:8</a></td>'
+        self.assertIn('<tr><td class="time">1</td><td data-task="Thread 2"><span class="takes" title="b#2">takes b</span><br><a href="#record-1-1">run at server.c:8</a></td>'
                       '<td data-task="Thread 1"></td></tr>\n', table)
-        self.assertIn('<td data-task="Thread 2"><span class="waits">waits for a#1 as a reader</span><br><a href="#record-1-4">run at server.c:9</a></td>', table)
+        self.assertIn('<td data-task="Thread 2"><span class="waits" title="a#1">waits for a as a reader</span><br><a href="#record-1-4">run at server.c:9</a></td>', table)
         self.assertEqual(table.count("<tr><td"), 5)  # (the last row says that it is a deadlock)
         self.assertEqual(text.count('<div class="record" id="record-1-'), 4)
 

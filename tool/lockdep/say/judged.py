@@ -12,7 +12,7 @@ from ..program.schedules import Forced, Ring, Waiting
 from ..record.threads import name_of_thread, thread_of
 from .steps import MODES, awaited
 
-WRITER = "w"
+WRITER, TAKES = "w", "takes"
 MOST_FORCED = 12  # steps that are printed of one ring; the JSON has all of them
 FORCED = {  # what a task has to do, or can't: the words for it, with its place, and with the other task's
     "ring": "{task} has to come to {place}",
@@ -55,7 +55,7 @@ def steps_of_ring(ring: Ring) -> list[RingStep]:
     """What the tasks of a ring do at last: each takes what another one waits for, in the order of the schedule, and then all wait, writers first, since a reader
     may wait behind one."""
     locks, tasks = {waiting.lock for waiting in ring.waits}, in_turn(ring)
-    takes = [RingStep(waiting.place.task, "takes", held.key, held.mode, held.event) for waiting in tasks for held in waiting.holds if held.key in locks]
+    takes = [RingStep(waiting.place.task, TAKES, held.key, held.mode, held.event) for waiting in tasks for held in waiting.holds if held.key in locks]
     waits = sorted(tasks, key=lambda waiting: waiting.mode != WRITER)
     return takes + [RingStep(waiting.place.task, "waits for", waiting.lock, waiting.mode, waiting.place.event) for waiting in waits]
 
@@ -76,7 +76,7 @@ def place_of(event: Event | None, sources: Sources) -> str:
 
 
 def step_line(step: RingStep, finding: Finding, sources: Sources) -> str:
-    if step.verb == "takes" and step.lock.startswith(THREAD) and is_placeless(step.event, sources):
+    if step.verb == TAKES and step.lock.startswith(THREAD) and is_placeless(step.event, sources):
         return "%s begins" % called(step.task, finding)
     return "%s %s: %s" % (called(step.task, finding), step.words, place_of(step.event, sources))
 

@@ -20,6 +20,7 @@ from .explanation import inner_lines
 from .found import Found
 from .judged import called as called_task
 from .judged import judged_lines, ring_of, steps_of_ring
+from .sentences import words_of_ring_step
 from .steps import Step, events_of, steps_of, task_count, task_name, words_of_step
 
 REM_OF_TASK = 12  # how wide a task's column is, at least
@@ -165,25 +166,26 @@ def why_html(finding: Finding, sources: Sources) -> str:
     return '<h3>What keeps these steps apart</h3>\n<pre tabindex="0"><code>%s</code></pre>\n' % lines if lines else ""
 
 
-def ring_table(finding: Finding, ring: Ring, sources: Sources) -> str:
+def ring_table(finding: Finding, ring: Ring, found: Found) -> str:
     """The tasks of a ring side by side: what each takes and waits for at last."""
-    steps = steps_of_ring(ring)
+    steps, shown, sources = steps_of_ring(ring), found.names.of_ring(ring), found.sources
     tasks, events = list(dict.fromkeys(step.task for step in steps)), [step.event for step in steps]
     titles = {task: escaped(name[:1].upper() + name[1:]) for task in tasks for name in [called_task(task, finding)]}
     heads = "".join('<th scope="col">%s</th>' % titles[task] for task in tasks)
     rows = ""
     for number, step in enumerate(steps, 1):
-        said = '<span class="%s">%s</span><br>%s' % (step.verb.partition(" ")[0], escaped(step.words), link_html(finding, step.event, events, sources))
+        said = '<span class="%s" title="%s">%s</span><br>%s' % (step.verb.partition(" ")[0], escaped(step.lock), escaped(words_of_ring_step(step, shown)),
+                                                                link_html(finding, step.event, events, sources))
         rows += '<tr><td class="time">%d</td>%s</tr>\n' % (number, "".join('<td data-task="%s">%s</td>' % (
             titles[task], said if task == step.task else "") for task in tasks))
     return TABLE % ("What the threads of finding %d do in another order" % finding.number, REM_OF_TASK * len(tasks), heads, rows, len(tasks), DEADLOCK)
 
 
-def steps_html(finding: Finding, sources: Sources) -> str:
+def steps_html(finding: Finding, found: Found) -> str:
     """The tasks side by side, by the steps that stand still if there are such, and the record of each step."""
-    ring, steps = ring_of(finding), steps_of(finding)
+    ring, steps, sources = ring_of(finding), steps_of(finding), found.sources
     if ring and ring.schedule:
-        said, events = "<h3>The recorded steps that stand still, in another order</h3>\n" + ring_table(finding, ring, sources), [
+        said, events = "<h3>The recorded steps that stand still, in another order</h3>\n" + ring_table(finding, ring, found), [
             step.event for step in steps_of_ring(ring)]
     else:
         said, events = task_table(finding, steps, sources) if steps else "", events_of(steps)
@@ -197,7 +199,7 @@ def finding_html(finding: Finding, found: Found, group: str = "") -> str:
     said += '<h2 id="head-%d" title="%s">%d. %s</h2>\n' % (number, escaped(finding.head), number, escaped(found.title(finding)))
     said += '<ul class="list">\n%s</ul>\n' % "".join("<li>%s</li>\n" % escaped(row) for row in found.rows(finding))
     said += "".join('<p class="note">%s</p>\n' % escaped(as_sentence(remark)) for remark in found.all_remarks(finding)) + group
-    said += stood_html(finding) + why_html(finding, sources) + steps_html(finding, sources)
+    said += stood_html(finding) + why_html(finding, sources) + steps_html(finding, found)
     said += inner_html(finding, sources) + lock_lines(finding, steps_of(finding), sources)
     lines = "".join(escaped(line) + "\n" for line in finding.lines)
     said += '<details><summary class="soft">Its lines in the report, as a list of known findings has them</summary>'

@@ -23,7 +23,7 @@ from ..program.verdicts import Level, Reason, Verdict
 from ..record.handlers import Handler
 from ..record.threads import MAIN, TASK, name_of_thread, of_recording, thread_called, thread_of
 from .groups import Dependency
-from .judged import form_of, in_turn, ring_of
+from .judged import TAKES, RingStep, form_of, in_turn, ring_of
 from .kernel_words import words_of_kernel
 from .signal_text import calls_of, mending_words
 from .steps import MODES, TYPES
@@ -83,6 +83,10 @@ class Names:
             locks = Counter(words for _, words in {(name_in(key), words.partition(" (subclass ")[0]) for key, words in shown.items()})
             shown = {key: call(key) if locks[words.partition(" (subclass ")[0]] > 1 else words for key, words in shown.items()}
         return shown
+
+    def of_ring(self, ring: Ring) -> dict[str, str]:
+        """The same of the locks that a ring's tasks wait for."""
+        return self.beside([key_of(waiting.lock) for waiting in ring.waits])
 
     def made_key(self, key: str) -> str:
         """A single lock, with the line that makes its class, or else the sum of that place."""
@@ -236,12 +240,20 @@ def waits_words(key: str, mode: str | None, shown: dict[str, str]) -> str:
     return "waits for %s%s" % (shown[key], mode_words(mode))
 
 
+def words_of_ring_step(step: RingStep, shown: dict[str, str]) -> str:
+    """What a task of a ring does."""
+    key = key_of(step.lock)
+    if step.verb != TAKES:
+        return waits_words(key, step.mode, shown)
+    return "begins" if key.startswith(THREAD) else "takes %s%s" % (shown[key], mode_words(step.mode))
+
+
 def parts_of(finding: Finding, names: Names) -> list[Part]:
     """What each thread does: by the steps of the ring that the verdict is about, if there is one; else by the single locks, if they were seen so; else by
     the classes."""
     ring = ring_of(finding)
     if ring:
-        shown = names.beside([key_of(waiting.lock) for waiting in ring.waits])
+        shown = names.of_ring(ring)
         first = min(range(len(ring.waits)), key=lambda at: ring.waits[at].place.task)
         return [part_of_waiting(waiting, finding, shown) for waiting in ring.waits[first:] + ring.waits[:first]]
     inner = finding.between.finding if finding.between else None
@@ -450,7 +462,7 @@ def tasks_words(tasks: list[str]) -> list[str]:
 
 def schedule_words(verdict: str, finding: Finding, ring: Ring, sources: Sources) -> str:
     """How far each thread goes on: all but the last one stop when they hold what others wait for, and the last one goes on to its wait."""
-    shown = Names([finding], sources).beside([key_of(waiting.lock) for waiting in ring.waits])
+    shown = Names([finding], sources).of_ring(ring)
     parts = [part_of_waiting(waiting, finding, shown) for waiting in in_turn(ring)]
     depth, at = depth_of_halts(parts, sources), {}
     for part in parts[:-1]:
