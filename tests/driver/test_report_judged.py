@@ -214,6 +214,7 @@ class Forms(OfRings):
     def test_the_page_has_a_table_of_the_schedule(self) -> None:
         finding = self.shown()
         text = finding_html(finding, self.found(finding, Placed()))
+        self.assertIn('<p class="note">Possible: thread 2 stops after server.c:8, and thread 1 goes on to server.c:5.</p>', text)
         self.assertIn("<h3>The recorded steps that stand still, in another order</h3>\n", text)
         table = text.partition("in another order</h3>")[2].partition("</table>")[0]
         self.assertIn('<th scope="col">Thread 2</th><th scope="col">Thread 1</th>', table)

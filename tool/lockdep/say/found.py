@@ -16,7 +16,8 @@ from ..places.sources import Sources
 from ..program.checker import text_answer
 from ..program.findings import Finding
 from ..record.summary import Summary
-from .sentences import Names, mending, row_words, rows_of, title
+from .judged import ring_of
+from .sentences import Names, mending, row_words, rows_of, title, verdict_lines
 from .verdict_words import remarks_of
 
 TYPE_CHECKING = False
@@ -106,9 +107,13 @@ class Found:
         return self.once(remarks_of, finding, self.recorded)
 
     def all_remarks(self, finding: Finding) -> list[str]:
-        """The remarks, and what mends a cycle; of a signal that is a remark."""
+        """The remarks, of which the verdict says how the steps stand still, or what keeps them apart, if that is known; and what mends a cycle. (Of a signal
+        that is a remark.)"""
         mend = "" if finding.handler else self.once(mending, finding, self.sources, self.recorded, self.names)
-        return self.remarks(finding) + (["to mend it: " + mend] if mend else [])
+        remarks = self.remarks(finding)
+        if ring_of(finding) and not finding.happened:
+            remarks = remarks[:-1] + self.once(verdict_lines, finding, self.sources, self.recorded)
+        return remarks + (["to mend it: " + mend] if mend else [])
 
     def verdict_of(self, finding: Finding) -> str:
         """The verdict behind a finding in a list; empty if nothing was asked, or if the traces are of a kernel."""
