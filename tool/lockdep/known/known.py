@@ -111,11 +111,11 @@ def sort(findings: list[Finding], blocked: list[Blocked], entries: list[Entry], 
     judge = Judge(findings, TakingPart(sources, list(traces)))
     fresh = judge.fresh(entries)
     result.stale, result.moved = judge.stale, judge.moved
-    lines = {entry.line for entry in fresh if not entry.is_pattern}
+    lines, patterns = {entry.line for entry in fresh if not entry.is_pattern}, [entry for entry in fresh if entry.is_pattern]
     used: set[int] = set()
     hidden = lines & set(judge.findings)
     for finding in findings:
-        fitting = [entry for entry in fresh if fits_finding(entry, finding, sources)]
+        fitting = [entry for entry in patterns if fits_finding(entry, finding, sources)]
         used.update(entry.number for entry in fitting)
         hidden.update(finding.lines if fitting else ())
         is_listed = bool(fitting) or set(finding.lines) <= lines
@@ -123,12 +123,12 @@ def sort(findings: list[Finding], blocked: list[Blocked], entries: list[Entry], 
         (result.known if is_listed or reason is not None else result.new).append(finding)
         result.libraries += [] if reason is None else [(finding, reason)]
     for thread in blocked:
-        fitting = [entry for entry in fresh if fits_blocked(entry, thread, sources)]
+        fitting = [entry for entry in patterns if fits_blocked(entry, thread, sources)]
         used.update(entry.number for entry in fitting)
         result.blocked += [] if fitting else [thread]
         result.known_blocked += bool(fitting)
     for breach in breaches:
-        fitting = [entry for entry in fresh if fits_blocked(entry, breach, sources)]
+        fitting = [entry for entry in patterns if fits_blocked(entry, breach, sources)]
         used.update(entry.number for entry in fitting)
         (result.known_breaches if fitting else result.breaches).append(breach)
     numbered(result.new)
