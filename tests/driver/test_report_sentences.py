@@ -38,8 +38,13 @@ def waiting(task: int, holds: str, lock: str, record: int, mode: str = "w") -> W
     return Waiting(Place("task-%04d" % task, event(record + 1)), lock, mode, (Held(holds, "w", event(record)),))
 
 
+def before(place: Place) -> Place:
+    """The last step of a task before this one."""
+    return Place(place.task, event(place.event.record - 1))
+
+
 def ring(*waits: Waiting, joins: bool = False, verdict: str = POSSIBLE, because: tuple[Forced, ...] = ()) -> Ring:
-    return Ring(verdict, joins, waits, tuple(wait.place for wait in waits) if verdict == POSSIBLE else (), because)
+    return Ring(verdict, joins, waits, tuple(before(wait.place) for wait in waits) if verdict == POSSIBLE else (), because)
 
 
 def judged(said: dict, judgement: Judgement) -> Finding:
@@ -135,11 +140,13 @@ class Titles(OfAFinding):
                              (("S::m@00000001#1/0", "S::m@00000002#1/0"), "S::m#1@00000001 and S::m#1@00000002"),
                              (("S::m@00000001#1/0", "S::m@00000002#1/1"), "S::m#1@00000001 and S::m#1@00000002 (subclass 1)")):
             self.assertEqual(self.title(circle(*keys)), wanted + " are taken in both orders")
-        for number, place in enumerate(("s.c:9 main", "s.c:10 main"), 1):
+        for number, places in enumerate((("s.c:9 main",), ("s.c:10 main",), ("s.c:3 make", "s.c:11 main"), ("s.c:3 make", "s.c:12 main")), 1):
             record = Event("t/classes", number)
-            self.sources.take_callers({record: at(place)})
-            self.sources.take_class(Made("S::m@0000000%d" % number, Address(place, None, True), "heap", "main+0x1", "S::m", record))
+            self.sources.take_callers({record: at(*places)})
+            self.sources.take_class(Made("S::m@0000000%d" % number, Address(places[0], None, True), "heap", "main+0x1", "S::m", record))
         self.sources.ask()
+        self.assertEqual(self.title(circle("S::m@00000003#1/0", "S::m@00000004#1/0")), "S::m#1 (made at s.c:11) and S::m#1 (made at s.c:12) are taken in both orders")
+        self.assertEqual(self.title(circle("S::m@00000001#1/0", "S::m@00000003#1/0")), "S::m#1 (made at s.c:9) and S::m#1 (made at s.c:3) are taken in both orders")
         self.assertEqual(self.title(circle("S::m@00000001#1/0", "S::m@00000002#1/0")), "S::m#1 (made at s.c:9) and S::m#1 (made at s.c:10) are taken in both orders")
         self.assertEqual(self.title(circle("S::m@00000001/0", "S::m@00000002/0")), "S::m (made at s.c:9) and S::m (made at s.c:10) are taken in both orders")
 
@@ -208,6 +215,13 @@ class Rows(OfAFinding):
         found = judged(ABBA, Judgement(Verdict.POSSIBLE, ring=ring(waiting(1, "a", "b", 2), waiting(2, "b", "a", 5))))
         self.assertEqual(rows_of(found, self.sources, self.names(found))[0][1:3], ("holds a, m.c:4 < first at m.c:30", "waits for b, m.c:5 < first at m.c:30"))
         self.assertEqual(verdict_lines(found, self.sources, Recorded([])), ["possible: thread 1 stops after m.c:4, and thread 2 goes on to m.c:5"])
+
+    def test_a_thread_may_stop_in_the_call_that_waits(self) -> None:
+        """As in a condition's wait, which has released the lock that it takes again: its last step is of the line of the wait."""
+        self.take({2: ("m.c:10 get",), 4: ("m.c:11 get",), 5: ("m.c:11 get",), 7: ("m.c:20 show",), 8: ("m.c:21 show",)})
+        woken = Waiting(Place("task-0001", event(5)), "b", "w", (Held("a", "w", event(2)),))
+        found = judged(ABBA, Judgement(Verdict.POSSIBLE, ring=ring(woken, waiting(2, "b", "a", 7))))
+        self.assertEqual(verdict_lines(found, self.sources, Recorded([])), ["possible: thread 1 stops in the middle of m.c:11, and thread 2 goes on to m.c:21"])
 
     def test_a_place_of_which_fewer_callers_are_known_is_no_other_one(self) -> None:
         self.take({2: ("m.c:4 both", "m.c:30 main"), 3: ("m.c:5 both", "m.c:30 main"), 5: ("m.c:4 both",), 6: ("m.c:5 both", "m.c:30 main")})
@@ -297,7 +311,7 @@ class Mending(OfAFinding):
 
     def test_the_order_that_fewer_threads_have(self) -> None:
         self.assertEqual(self.mend(circle_by(((1, 2, 3), 4), "a/0", "b/0")),
-                         "1 thread takes b first (record 3 of task-0004.csv), and 3 the other way round: take a before it")
+                         "1 thread takes b first (record 2 of task-0004.csv), and 3 the other way round: take a before it")
         self.assertEqual(self.mend(circle_by(((1, 2), (3, 4)), "a/0", "b/0")), "")
         self.assertEqual(self.mend(circle_by(((1, 2), 3, 4), "a/0", "b/0", "c/0")), "")
 
@@ -308,6 +322,20 @@ class Mending(OfAFinding):
         self.assertEqual(mending(found, self.sources, Recorded([]), Names(others, self.sources)), "")
         found.judged = Judgement(Verdict.APART)
         self.assertEqual(mending(found, self.sources, Recorded([]), self.names(found)), "")
+
+    def test_a_lock_that_a_called_function_takes_is_not_taken_before(self) -> None:
+        of_callee = "1 thread takes b first (m.c:10 in close), and 3 the other way round: release it before m.c:20"
+        for function, wanted in (("close", "1 thread takes b first (m.c:10 in close), and 3 the other way round: take a before it"), ("leave", of_callee)):
+            trace = "t/objects/task-0004.csv"
+            self.sources.take_callers({Event(trace, 2): at("m.c:10 close"), Event(trace, 3): at("m.c:20 " + function)})
+            self.sources.ask()
+            self.assertEqual(self.mend(circle_by(((1, 2, 3), 4), "a/0", "b/0")), wanted)
+
+    def test_a_lock_that_was_held_before_and_is_taken_again(self) -> None:
+        """As by a condition's wait under another lock, which is taken with the first one held."""
+        again, trace = circle_by(((1, 2, 3), 1), "a/0", "b/0"), "t/objects/task-0001.csv"
+        again["orders"][1]["traces"] = {"count": 1, "first": [{"file": trace, "record": 5, "since": 3}]}
+        self.assertEqual(self.mend(again), "")
 
     def test_a_join(self) -> None:
         self.assertEqual(self.mend(circle("state/0", "thread:worker/0")), "release state before the thread is joined")

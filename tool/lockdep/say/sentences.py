@@ -78,8 +78,8 @@ class Names:
     def beside(self, keys: list[str]) -> dict[str, str]:
         """What keys are called beside each other: by their classes, by single locks where two are of one class, and by the lines that make them where two
         classes are of one type."""
-        shown = {key: self.key(key) for key in keys}
-        for call in (lambda key: self.key(key, True), self.made_key):
+        shown, kinds = {key: self.key(key) for key in keys}, list(dict.fromkeys(kind_of(name_in(key)) for key in keys))
+        for call in (lambda key: self.key(key, True), lambda key: self.made_key(key, kinds)):
             locks = Counter(words for _, words in {(name_in(key), words.partition(" (subclass ")[0]) for key, words in shown.items()})
             shown = {key: call(key) if locks[words.partition(" (subclass ")[0]] > 1 else words for key, words in shown.items()}
         return shown
@@ -88,10 +88,11 @@ class Names:
         """The same of the locks that a ring's tasks wait for."""
         return self.beside([key_of(waiting.lock) for waiting in ring.waits])
 
-    def made_key(self, key: str) -> str:
-        """A single lock, with the line that makes its class, or else the sum of that place."""
+    def made_key(self, key: str, kinds: list[str]) -> str:
+        """A single lock, with the line that makes its class, by as many callers as tell those of its type among these apart, or else the sum of that place."""
         kind = kind_of(name_in(key))
-        found, line = OF_TYPE.fullmatch(kind), lines_that_make([kind], self.sources).get(kind, "")
+        found, alike = OF_TYPE.fullmatch(kind), [other for other in kinds if type_of(other) == type_of(kind)]
+        line = lines_that_make(alike, self.sources).get(kind) or lines_that_make([kind], self.sources).get(kind)
         return self.key(key, True, " (%s%s)" % (MADE_AT, line) if line else "@" + found.group(2) if found else "")
 
 
@@ -425,17 +426,21 @@ def judged_line(finding: Finding, sources: Sources, recorded: Recorded) -> str:
     is_apart = finding.judged is not None and finding.judged.verdict is Verdict.APART
     messages = messages_words([each for each in ring.because if each.by == MESSAGE][:MOST_MESSAGES], finding, sources) if ring and is_apart else []
     if finding.judged and finding.judged.reason is Reason.ONE_LOCK:
-        why = why.replace("one lock", gate_words(finding), 1)
+        why = why.replace("one lock", gate_words(finding, sources), 1)
     if messages:
         return "%s: in this recording, %s" % (verdict, ", and ".join(messages))
     return "%s: %s" % (verdict, why) if why else verdict
 
 
-def gate_words(finding: Finding) -> str:
+def gate_words(finding: Finding, sources: Sources) -> str:
     """The single lock that was held each time, if its name is known."""
     inner = finding.between.finding if finding.between else None
     gate = gate_of_all(inner) if inner else None
-    return plain_key(gate.key) if gate else "one lock"
+    if not gate:
+        return "one lock"
+    kind = kind_of(name_in(gate.key))
+    line = lines_that_make([kind], sources).get(kind) if OF_CODE.search(kind) else ""
+    return THE_LOCK + MADE_AT + line if line else sources.demangler.text(own_name(kind))
 
 
 def messages_words(several: list[Forced], finding: Finding, sources: Sources) -> list[str]:
@@ -462,11 +467,12 @@ def tasks_words(tasks: list[str]) -> list[str]:
 
 def schedule_words(verdict: str, finding: Finding, ring: Ring, sources: Sources) -> str:
     """How far each thread goes on: all but the last one stop when they hold what others wait for, and the last one goes on to its wait."""
-    shown = Names([finding], sources).of_ring(ring)
-    parts = [part_of_waiting(waiting, finding, shown) for waiting in in_turn(ring)]
+    shown, last = Names([finding], sources).of_ring(ring), {place.task: place.event for place in ring.schedule}
+    turns = in_turn(ring)
+    parts = [part_of_waiting(waiting, finding, shown) for waiting in turns]
     depth, at = depth_of_halts(parts, sources), {}
-    for part in parts[:-1]:
-        at.setdefault(halt_of(part, sources, depth), []).append(thread_words(part))
+    for waiting, part in zip(turns, parts[:-1]):
+        at.setdefault(halt_of(part, last.get(waiting.place.task), sources, depth), []).append(thread_words(part))
     halts = [halt_words(threads, *halt) for halt, threads in at.items()] + [
         "%s goes on to %s" % (thread_words(parts[-1]), short_place(parts[-1].at, sources, depth))]
     end = ", unless the thread is joined only when it has said that it is done" if ring.joins else ""
@@ -484,11 +490,14 @@ def depth_apart(pairs: Iterable[tuple[Event, Event]], sources: Sources) -> int:
                  if all(short_place(one, sources, depth) != short_place(other, sources, depth) for one, other in pairs)), 0)
 
 
-def halt_of(part: Part, sources: Sources, depth: int) -> tuple[str, str]:
-    """How far a thread goes on, and where that is: until it holds its lock; one that is joined has begun, and one that holds nothing comes to its wait."""
-    if part.since:
-        return "stop%s after", short_place(part.since, sources, depth)
-    return ("begin%s", "") if part.holds else ("come%s to", short_place(part.at, sources, depth))
+def halt_of(part: Part, last: Event | None, sources: Sources, depth: int) -> tuple[str, str]:
+    """How far a thread goes on, by its last step, and where that is: until it holds its lock, or is in the call that waits, as a condition's does once it is
+    woken; one that is joined has begun, and one that holds nothing comes to its wait."""
+    if not part.since:
+        return ("begin%s", "") if part.holds else ("come%s to", short_place(part.at, sources, depth))
+    held, waits = short_place(part.since, sources, depth), short_place(part.at, sources, depth)
+    is_in_wait = last is not None and sources.frames(last) and short_place(last, sources, depth) == waits != held
+    return ("stop%s in the middle of", waits) if is_in_wait else ("stop%s after", held)
 
 
 def halt_words(threads: list[str], verb: str, place: str) -> str:
@@ -519,7 +528,7 @@ def mending(finding: Finding, sources: Sources, recorded: Recorded, names: Names
     """What the recording says would mend it: of two orders the one that fewer threads have, where a thread is joined too early, or what keeps a signal's
     handler out. Empty if it says nothing."""
     if finding.handler:
-        return mending_words(finding)
+        return mending_words(finding, names.key)
     if not finding.is_counted and finding.verdict is not Verdict.BY_JOIN:
         return ""
     inner = finding.between.finding if finding.between else None
@@ -540,12 +549,18 @@ def rarer_words(orders: list[Order], sources: Sources, recorded: Recorded, names
     """Which of two orders fewer threads have."""
     rare, other = sorted(orders, key=lambda order: threads_with(order, recorded))
     few, many = threads_with(rare, recorded), threads_with(other, recorded)
-    if not 0 < few < many:
+    if not 0 < few < many or is_within(rare, other):
         return ""
-    shown = names.beside([rare.start, rare.end])
-    place = " (%s)" % where(rare.event, sources) if rare.event and few == 1 else ""
-    return "%s %s %s first%s, and %d the other way round: take %s before it" % (
-        counted(few, "thread"), "takes" if few == 1 else "take", shown[rare.start], place, many, shown[rare.end])
+    shown, since, at = names.beside([rare.start, rare.end]), rare.since if few == 1 else None, rare.event if few == 1 else None
+    place = " (%s)" % where(since, sources) if since else ""
+    is_of_callee = since and at and function_of(frames_at(since, sources)) != function_of(frames_at(at, sources))
+    mend = "release it before %s" % short_place(at, sources) if is_of_callee else "take %s before it" % shown[rare.end]
+    return "%s %s %s first%s, and %d the other way round: %s" % (counted(few, "thread"), "takes" if few == 1 else "take", shown[rare.start], place, many, mend)
+
+
+def is_within(order: Order, other: Order) -> bool:
+    """Whether the first lock of an order is one that the other order takes, so that its second lock was held before, as that of a condition's wait is."""
+    return not {sighting.since for sighting in order.sightings}.isdisjoint(sighting.event for sighting in other.sightings)
 
 
 # ---- All of it.

@@ -2,6 +2,8 @@
 and what mends it."""
 from __future__ import annotations
 
+from typing import Callable
+
 from ..ask.signals import is_order_of_handler
 from ..base.words import LIBRARY, is_of_library, name_in, plain_key
 from ..binaries.cplusplus import without_parameters
@@ -154,12 +156,12 @@ def remarks_of_rwlock(finding: Finding, handler: Handler) -> list[str]:
     return [QUEUED % plain_key(key)] if mode == "r" and finding.is_about(handler.is_queued) else []
 
 
-def mending_words(finding: Finding) -> str:
+def mending_words(finding: Finding, called: Callable[[str], str] = plain_key) -> str:
     """What can be done: about the code that the handler interrupts, about the order, and in any case about the handler."""
-    first, last = plain_key(finding.keys[0]), plain_key(finding.keys[-1])
+    first, last = called(finding.keys[0]), called(finding.keys[-1])
     is_in_main = finding.handler is not None and finding.handler.is_in_one_thread
     ways = [] if is_in_main or is_of_library(finding.keys[-1]) else [blocking_words(finding, last)]
-    by_signals = [] if is_in_main else ["block %s around %s" % (order.signal, plain_key(order.start)) for order in finding.orders if order.signal]
+    by_signals = [] if is_in_main else ["block %s around %s" % (order.signal, called(order.start)) for order in finding.orders if order.signal]
     if len(finding.orders) == 1 and (ways or is_in_main) and first != last and not finding.orders[0].signal:
         ways.append("don't take %s under %s" % (last, first))
     ways += by_signals
