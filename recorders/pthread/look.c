@@ -257,16 +257,16 @@ static const char futex_number[] = {'\x40', '\x0c', '\x80', '\xd2'}; /* mov x0, 
 static const char futex_number[] = "(not known for this machine)";
 #endif
 
+/* What std::future waits by, in the library of gcc. */
+static const char wait_of_future[] = "__atomic_futex_unsigned_base19_M_futex_wait_until";
+
 /* A stripped program shows only what it imports. The C++ library has futexes of its own if it is linked in, and locks of pthreads
-   then, so these show only of a program without such locks that it has other ones. */
+   then, so its system calls show only of a program without such locks that it has other ones. */
 static bool waits_by_futex(const struct file *file, const struct symbols *symbols, const struct symbols *all) {
     size_t count = sizeof names_of_atomic_waits / sizeof *names_of_atomic_waits;
-    if (has_any_name(symbols, names_of_atomic_waits, count) || has_any_name(all, names_of_atomic_waits, count))
+    if (has_any_name(symbols, names_of_atomic_waits, count) || has_any_name(all, names_of_atomic_waits, count) || names_any(symbols, wait_of_future))
         return true;
-    if (calls_locks(symbols))
-        return false;
-    return names_any(symbols, "__atomic_futex_unsigned_base") ||
-           (calls_any(symbols, starts_of_system_calls) && memmem(file->bytes, file->size, futex_number, sizeof futex_number));
+    return !calls_locks(symbols) && calls_any(symbols, starts_of_system_calls) && memmem(file->bytes, file->size, futex_number, sizeof futex_number);
 }
 
 /* ---- Sanitizers. */

@@ -63,7 +63,7 @@ REASONS: dict[str, str] = {
     "taken-over": "another recording was begun in it, which took over: what that ran is in a folder of its own",
     "no-file": "no file could be made for its recording, as under a limit of memory or of a file's size: raise it (`ulimit -v`, `ulimit -f`)",
     "signals": "the semaphores that it takes are no locks: they began at 0, or were posted by a thread that hadn't taken them",
-    "futexes": "it waits by std::counting_semaphore or std::atomic, which no recorder sees",
+    "futexes": "it waits by std::future, std::counting_semaphore or std::atomic, which no recorder sees",
     "semaphores": "it takes semaphores, which are looked at only with LOCKDEP_ALSO=sem in the environment",
     "no-pthread-import": "nothing in it calls a pthread lock by itself",
 }
@@ -192,7 +192,7 @@ NOTES: dict[str, tuple[str, ...]] = {
     "semaphore-files": ("files whose semaphores were not looked at: no order of other locks is lost by these",),
     "signal-semaphores": ("semaphores that began at 0 or were posted by a thread that hadn't taken them, so they are no locks: no order of "
                           "other locks is lost by these",),
-    "futex-files": ("files whose waits by std::counting_semaphore or std::atomic were not looked at: no order of other locks is lost by these",),
+    "futex-files": ("files whose waits by std::future, std::counting_semaphore or std::atomic were not looked at: no order of other locks is lost by these",),
     "unnamed-modules": ("modules of the program without debug information: locks of these are named by where they were made; build with -g",),
     "unread-programs": ("programs whose debug information was not read, as by a recorder without libdw: locks are named by where they were made",),
     "assertions": ("times that a program said that it holds a lock: nothing is lost by these",),

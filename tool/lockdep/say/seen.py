@@ -257,8 +257,8 @@ def say_nothing_seen(summary: Summary, reasons: list[str], ended: int | None) ->
     return NOTHING
 
 
-SEMAPHORES = "the semaphores of %s weren't looked at: with LOCKDEP_ALSO=sem in the environment they are recorded as mutexes"
-FUTEXES = "the waits of %s by std::counting_semaphore or std::atomic weren't looked at: no recorder sees them"
+SEMAPHORES = "the semaphores of %s weren't looked at as locks: with LOCKDEP_ALSO=sem in the environment they are recorded as mutexes"
+FUTEXES = "the waits of %s by std::future, std::counting_semaphore or std::atomic aren't seen: what they keep apart may be called possible"
 
 SIGNALS = ("semaphore was left out as no lock: it", "semaphores were left out as no locks: each")
 
