@@ -40,7 +40,7 @@ class NamesOfThreads(unittest.TestCase):
         self.folder = tempfile.TemporaryDirectory()
         self.addCleanup(self.folder.cleanup)
         with open(os.path.join(self.folder.name, "tasks"), "wb") as file:
-            file.write(b"task-0001.csv 17 the payer\ntask-0002.csv 17 a\x1b[1mb\ntask-0003.csv 17 \ntask-0004.csv\n")
+            file.write(b"task-0001.csv 17 the payer\ntask-0002.csv 17 a\x1b[1mb\ntask-0003.csv 17 \ntask-0004.csv\ntask-0006.csv 18 \n")
 
     def trace(self, name, *folder):
         return os.path.join(self.folder.name, *folder, name)
@@ -57,6 +57,12 @@ class NamesOfThreads(unittest.TestCase):
         self.assertEqual(thread_of(Event("/nowhere/task-0001.csv", 2)), " (task-0001)")
         self.assertEqual(thread_of(Event("other.csv", 2)), "")
         self.assertEqual(thread_of(None), "")
+
+    def test_one_of_another_process_is_told_apart(self):
+        for folder in ((), ("objects",)):
+            one, same, unknown, other = (self.trace("task-000%d.csv" % number, *folder) for number in (1, 3, 4, 6))
+            self.assertEqual([of_recording(each, [one, same, unknown, other]) for each in (one, unknown, other)], [" of process 17", "", " of process 18"])
+            self.assertEqual([of_recording(each, [one, same, unknown]) for each in (one, same, unknown)], ["", "", ""])
 
     def test_one_of_another_recording_is_told_apart(self):
         events = [Event("x/m1/objects/task-0001.csv", 2), Event("y/m2/task-0001.csv", 2), Event("y/m2/task-0002.csv", 2)]

@@ -118,12 +118,12 @@ static void close_files(struct trace *t, const struct names *n, bool is_kept) {
     }
 }
 
-/* The name of a thread that has one. */
+/* The name of a thread that has one, and the process of each if there are several. */
 static void write_task(const char *folder, const struct trace *t) {
     const struct raw_process *process = part_of(t->arena, RAW_PROCESSES, t->raw->process);
     const struct raw_source *source = part_of(t->arena, RAW_SOURCES, t->raw->source);
     char text[32];
-    if ((!t->raw->name[0] && !source) || !process)
+    if ((!t->raw->name[0] && !source && process_count < 2) || !process)
         return;
     FILE *tasks = begun(&tasks_file, folder, "tasks");
     if (source) {

@@ -46,6 +46,18 @@ def name_of_thread(trace: str) -> str | None:
     return names_in(folder).get(file)
 
 
+@functools.lru_cache(maxsize=None)
+def processes_in(folder: str) -> dict[str, str]:
+    """The numbers of the processes of a folder's threads, by the files of their traces."""
+    return {words[0]: visible(words[1]) for words in lines_in(folder, TASKS) if len(words) > 1}
+
+
+def process_of(trace: str) -> str:
+    """The number of the process of a trace's thread; empty if it isn't known."""
+    folder, file = os.path.split(trace)
+    return processes_in(folder).get(file, "")
+
+
 def folder_of(trace: str) -> str:
     """The folder of the recording that a trace is of."""
     folder = os.path.dirname(trace)
@@ -53,11 +65,13 @@ def folder_of(trace: str) -> str:
 
 
 def of_recording(trace: str, traces: Iterable[str]) -> str:
-    """Of which recording a thread is, behind what it is called, if threads of several recordings are told of."""
-    own = folder_of(trace)
+    """Of which recording a thread is, behind what it is called, if threads of several recordings are told of; or of which process, if of several."""
+    own, process = folder_of(trace), process_of(trace)
     others = {folder_of(other) for other in traces} - {own}
+    if not others:
+        return " of process " + process if process and {process_of(other) for other in traces} - {process, ""} else ""
     is_told = all(os.path.basename(other) != os.path.basename(own) for other in others)
-    return " of " + visible((os.path.basename(own) if is_told else own) or own or ".") if others else ""
+    return " of " + visible((os.path.basename(own) if is_told else own) or own or ".")
 
 
 def thread_called(task: str) -> str:
