@@ -32,13 +32,13 @@ static uint64_t overflows;
 
 /* What is noted of a piece: its place, the locks that are known in it, and its size. Of one lock that isn't far in, it is one more than
    a fourth of its offset; of others it is SOME_LOCKS. */
-#define PLACE_BITS 21
 #define LOCKS_BITS 8
 #define SIZE_SHIFT (PLACE_BITS + LOCKS_BITS)
 #define SOME_LOCKS ((UINT64_C(1) << LOCKS_BITS) - 1)
 #define ALL_LOCKS (SOME_LOCKS << PLACE_BITS)
 
 static uint64_t locks_of(uint64_t about) { return about >> PLACE_BITS & SOME_LOCKS; }
+static inline uint32_t place_in_about(uint64_t about) { return (uint32_t)(about & ((UINT64_C(1) << PLACE_BITS) - 1)); }
 
 static struct slot *level_at(int level) {
     struct slot *slots = LOAD(&levels[level]);
@@ -78,7 +78,7 @@ static bool put_in_level(int level, uintptr_t address, uint64_t about) {
 }
 
 /* From this level on short pieces are kept apart. */
-#define MANY_LEVEL 2
+#define MANY_LEVEL 1
 
 /* ... of a piece whose line is full in the main level. */
 static __attribute__((noinline)) void put_in_next_level(int level, uintptr_t address, uint64_t about) {
@@ -180,21 +180,52 @@ static void take_parts_out(uintptr_t start, uint64_t size) {
 
 static inline bool is_noted_size(size_t size) { return LIKELY(size - LEAST_LOCK < (UINT64_C(1) << MOST_BITS) - LEAST_LOCK); }
 
-/* A word that an earlier piece left, whose end wasn't seen, says nothing any more. */
+static inline uint64_t short_about(uint32_t word) { return short_size(word) << SIZE_SHIFT | short_place(word); }
+
+/* The locks that the table has of a short piece, which are taken out. */
+static __attribute__((noinline)) uint64_t taken_marks(uintptr_t address) {
+    uint64_t all = ALL_LOCKS, about = 0;
+    for (struct slot *slot; all == ALL_LOCKS && (slot = find_slot(address)); STORE(&slot->address, 0)) {
+        about |= LOAD(&slot->about);
+        all = about & ALL_LOCKS;
+    }
+    return about & ALL_LOCKS;
+}
+
+/* A word that an earlier piece left, whose end wasn't seen, says nothing any more. Whether the word is free then: else it is of another piece. */
+static __attribute__((noinline)) bool is_left_behind(uint32_t *at, uintptr_t address, uint64_t size) {
+    uint32_t word = LOAD(at);
+    if (!word || !is_short_over(word, address, size))
+        return !word;
+    if (word & HAS_MARKS)
+        taken_marks(is_short_at(word, address) ? address : address ^ HALF);
+    STORE(at, 0);
+    return true;
+}
+
 static inline void put_long(uintptr_t address, uint64_t about) {
-    uint64_t *word = short_word(address);
+    uint32_t *word = short_word(address);
     if (UNLIKELY(word && LOAD(word)))
-        STORE(word, 0);
+        is_left_behind(word, address, about >> SIZE_SHIFT);
     put_piece(address, about);
     if (UNLIKELY(about >> SIZE_SHIFT >= LONG_PIECE))
         put_parts(address, about >> SIZE_SHIFT);
 }
 
+/* Whether the word is this piece's now, and not one's that another thread has got beside it. */
+static inline bool put_short(uint32_t *at, uintptr_t address, uint64_t size, uint32_t place) {
+    uint32_t none = 0, word = short_from(address, size, place);
+    if (UNLIKELY(LOAD(at)) && !is_left_behind(at, address, size))
+        return false;
+    if (size <= HALF)
+        return SWAP(at, &none, word);
+    STORE(at, word);
+    return true;
+}
+
 static inline void put_anywhere(uintptr_t address, uint64_t about) {
-    uint64_t *word = about >> SIZE_SHIFT < SHORT_PIECE ? made_short_word(address) : NULL;
-    if (LIKELY(word))
-        STORE(word, about);
-    else
+    uint32_t *word = about >> SIZE_SHIFT < SHORT_PIECE ? made_short_word(address) : NULL;
+    if (UNLIKELY(!word || !put_short(word, address, about >> SIZE_SHIFT, place_in_about(about))))
         put_long(address, about);
 }
 
@@ -228,23 +259,24 @@ static __attribute__((noinline)) uint64_t taken_from_slot(uintptr_t address) {
 
 /* What was known of a piece, which is taken out; 0 if nothing was. */
 static inline uint64_t taken_piece(uintptr_t address) {
-    uint64_t *word = short_word(address), about = word ? LOAD(word) : 0;
-    if (UNLIKELY(!about))
+    uint32_t *at = short_word(address), word = at ? LOAD(at) : 0;
+    if (UNLIKELY(!is_short_at(word, address)))
         return taken_from_slot(address);
-    STORE(word, 0);
-    return about;
+    STORE(at, 0);
+    return UNLIKELY(word & HAS_MARKS) ? short_about(word) | taken_marks(address) : short_about(word);
 }
 
-/* Where it is written what is noted of a piece, or NULL. */
-static uint64_t *find_piece(uintptr_t address) {
-    uint64_t *word = short_word(address);
-    struct slot *slot = word && LOAD(word) ? NULL : find_slot(address);
-    return slot ? &slot->about : word && LOAD(word) ? word : NULL;
+/* What is noted of a piece, but for the locks of a short one; 0 if nothing is. */
+static uint64_t noted_of(uintptr_t address) {
+    const uint32_t *at = short_word(address);
+    uint32_t word = at ? LOAD(at) : 0;
+    const struct slot *slot = is_short_at(word, address) ? NULL : find_slot(address);
+    return slot ? LOAD(&slot->about) : is_short_at(word, address) ? short_about(word) : 0;
 }
 
 bool has_ended(uint64_t mark) {
-    const uint64_t *about = find_piece(mark >> MARK_BITS);
-    return !about || mark_of(mark >> MARK_BITS, LOAD(about)) != mark;
+    uint64_t about = noted_of(mark >> MARK_BITS);
+    return !about || mark_of(mark >> MARK_BITS, about) != mark;
 }
 
 void note_piece(void *piece, size_t size, uint64_t element, struct call call) {
@@ -263,8 +295,8 @@ void note_piece(void *piece, size_t size, uint64_t element, struct call call) {
 
 /* A piece that ends where it was told to. */
 void drop_piece(uintptr_t address, size_t size) {
-    const uint64_t *about = find_piece(address);
-    if (about && LOAD(about) >> SIZE_SHIFT <= size)
+    uint64_t about = noted_of(address);
+    if (about && about >> SIZE_SHIFT <= size)
         taken_piece(address);
 }
 
@@ -294,12 +326,12 @@ __attribute__((noinline)) static void end_locks(uintptr_t address, uint64_t abou
 /* A piece in which a lock is: where it begins, and what is noted of it. */
 struct piece {
     uintptr_t from;
-    uint64_t *about;
+    uint64_t about;
 };
 
 static bool is_piece_at(uintptr_t start, uintptr_t lock, struct piece *piece) {
-    *piece = (struct piece){start, start <= lock ? find_piece(start) : NULL};
-    return piece->about && lock - start < LOAD(piece->about) >> SIZE_SHIFT;
+    *piece = (struct piece){start, start <= lock ? noted_of(start) : 0};
+    return lock - start < piece->about >> SIZE_SHIFT;
 }
 
 static bool is_in_long_piece(uint64_t key, uintptr_t lock, struct piece *piece) {
@@ -321,16 +353,34 @@ static bool find_piece_around(uintptr_t lock, struct piece *piece) {
     return is_found;
 }
 
-/* Notes that the piece has this lock. What was noted before is returned. */
-static uint64_t mark_lock(uint64_t *at, uint64_t offset) {
-    uint64_t about = LOAD(at), mark, new;
+/* What is noted of the locks of a piece, with one more. */
+static void mark_slot(struct slot *slot, uint64_t own) {
+    uint64_t about = LOAD(&slot->about), mark, new;
     do {
-        mark = offset / 4 + 1 < SOME_LOCKS ? offset / 4 + 1 : SOME_LOCKS;
-        if (locks_of(about) && locks_of(about) != mark)
-            mark = SOME_LOCKS;
+        mark = locks_of(about) && locks_of(about) != own ? SOME_LOCKS : own;
         new = (about & ~ALL_LOCKS) | mark << PLACE_BITS;
-    } while (about != new && !SWAP(at, &about, new));
-    return about;
+    } while (about != new && !SWAP(&slot->about, &about, new));
+}
+
+/* Two threads that find the first lock of a short piece at once both put it in the table: the later one makes that SOME_LOCKS, of which all are taken out. */
+static void put_marks(uint32_t *word, const struct piece *piece, uint64_t own) {
+    struct search search = new_search();
+    put_piece(piece->from, piece->about | own << PLACE_BITS);
+    if (__atomic_fetch_or(word, HAS_MARKS, __ATOMIC_ACQ_REL) & HAS_MARKS)
+        for (struct slot *slot; (slot = next_slot(piece->from, &search));)
+            mark_slot(slot, SOME_LOCKS);
+}
+
+/* Notes in the table that the piece has a lock so far in. */
+static void mark_lock(const struct piece *piece, uint64_t offset) {
+    uint32_t *at = short_word(piece->from), word = at ? LOAD(at) : 0;
+    uint64_t own = offset / 4 + 1 < SOME_LOCKS ? offset / 4 + 1 : SOME_LOCKS;
+    bool is_first = is_short_at(word, piece->from) && !(word & HAS_MARKS);
+    struct slot *slot = is_first ? NULL : find_slot(piece->from);
+    if (is_first)
+        put_marks(at, piece, own);
+    else if (slot)
+        mark_slot(slot, own);
 }
 
 /* Of memory that a program maps itself only the beginning is known by that: further on its own allocator gives out what it likes. */
@@ -342,8 +392,9 @@ bool find_memory(uintptr_t lock, struct memory *memory) {
     *memory = (struct memory){0, 0, 0};
     if (!find_piece_around(lock, &piece))
         return false;
-    uint64_t from = piece.from, about = mark_lock(piece.about, lock - from);
-    uint32_t place = (uint32_t)(about & ((UINT64_C(1) << PLACE_BITS) - 1));
+    uint64_t from = piece.from, about = piece.about;
+    uint32_t place = place_in_about(about);
+    mark_lock(&piece, lock - from);
     if (!place || (lock - from >= KNOWN_OF_MAPPED && is_mapped_place(place)))
         return false;
     *memory = (struct memory){from, about >> SIZE_SHIFT, place};
