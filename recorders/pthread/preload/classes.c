@@ -125,7 +125,7 @@ static struct further *further_of(uint32_t class) {
     static struct further *all;
     struct further *there = LOAD(&all);
     if (UNLIKELY(!there)) {
-        struct further *made = take_spare(sizeof *made * MOST_CLASSES);
+        struct further *made = take_sparse(sizeof *made * MOST_CLASSES);
         if (made && SWAP(&all, &there, made))
             there = made;
     }

@@ -62,11 +62,12 @@ struct memo {
     uint16_t at[RAW_FRAMES]; /* in words; after the last one again where the first one is */
 } __attribute__((aligned(64)));
 
-/* They are kept in one of three tables, the next one if so many were made that one doesn't suffice. Its size is to be read before where it is. */
+/* They are kept in one of three tables, the next one if so many stacks had to be followed again that one doesn't suffice. Its size is to be read before
+   where it is. */
 static struct memo first_memos[FIRST_MEMOS];
 static struct memo more_memos[MORE_MEMOS] LARGE;
 static struct memo *memos = first_memos;
-static uint64_t memos_in_use = FIRST_MEMOS, memos_made;
+static uint64_t memos_in_use = FIRST_MEMOS, stacks_followed_again;
 
 static bool are_many_memos(void) { return __atomic_load_n(&memos_in_use, __ATOMIC_RELAXED) > FIRST_MEMOS; }
 static inline bool are_most_memos(void) { return __atomic_load_n(&memos_in_use, __ATOMIC_RELAXED) > MORE_MEMOS; }
@@ -77,11 +78,11 @@ static void use_memos(struct memo *full, struct memo *next, uint64_t count) {
         STORE(&memos_in_use, count);
 }
 
-static __attribute__((noinline)) void count_memo(void) {
-    uint64_t made = ADD(&memos_made, 1) + 1;
-    if (made == FIRST_MEMOS)
+static __attribute__((noinline)) void count_followed_again(void) {
+    uint64_t count = ADD(&stacks_followed_again, 1) + 1;
+    if (count == FIRST_MEMOS)
         use_memos(first_memos, more_memos, MORE_MEMOS);
-    else if (made == MORE_MEMOS)
+    else if (count == MORE_MEMOS)
         use_memos(more_memos, take_spare(MOST_MEMOS * sizeof *memos), MOST_MEMOS);
 }
 
@@ -160,11 +161,14 @@ static void make_first(struct memo *memos, uint32_t which) {
     memos[0] = first;
 }
 
-/* A stack that is spread out too far isn't kept. */
-static void remember(const struct asked *asked, const struct stack *stack, uint32_t place) {
+static uint32_t last_place(void) { return LOAD(&arena->regions[RAW_PLACES].used); }
+
+/* A stack that is spread out too far isn't kept. One whose place is none after the last place of before it was followed had been followed earlier. */
+static void remember(const struct asked *asked, const struct stack *stack, uint32_t place, uint32_t last) {
     if (!place || !stack->is_bounded || stack->count == 1 || stack->at[stack->count - 1] / WORD - 1 >= UINT16_MAX)
         return;
-    count_memo();
+    if (place <= last)
+        count_followed_again();
     make_first(asked->memos, MEMO_WAYS - 1);
     write_memo(asked->memos, asked->call.frame, stack, asked->salt, place);
 }
@@ -203,8 +207,8 @@ static uint32_t remembered(const struct asked *asked, uint32_t most) {
 }
 
 static uint32_t remembered_from_now(const struct asked *asked, const struct stack *stack) {
-    uint32_t place = place_of(stack);
-    remember(asked, stack, place);
+    uint32_t last = last_place(), place = place_of(stack);
+    remember(asked, stack, place, last);
     return place;
 }
 
@@ -350,9 +354,10 @@ static __attribute__((noinline)) uint32_t place_of_followed(const struct asked *
     if (LIKELY(place))
         return place;
     struct stack stack;
+    uint32_t last = last_place();
     take_stack(&stack, asked->call, PIECE_FRAMES);
     place = place_of_stack(asked, &stack);
-    remember(asked, &stack, place);
+    remember(asked, &stack, place, last);
     return place;
 }
 

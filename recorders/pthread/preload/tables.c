@@ -3,7 +3,7 @@
 #include "own.h"
 
 /* ---- Names: from a number to a number. Nothing is ever taken out, so a line's slots are filled one after the other. A level is made for the
-   first few that the one before has no room for, so most of it is unused for long. */
+   first few that the one before has no room for. They lie in as many pages, so after a level comes one of its own size before a larger one. */
 
 #define NAMES_WAYS 8
 struct names_line {
@@ -13,7 +13,7 @@ struct names_line {
     } slots[NAMES_WAYS];
 };
 
-static const uint32_t names_bits[NAMES_LEVELS] = {2, 7, 11, 14, 18}; /* of the number of lines */
+static const uint32_t names_bits[NAMES_LEVELS] = {2, 7, 11, 11, 14, 14, 16, 18}; /* of the number of lines */
 
 static struct names_line *names_level(struct names *names, int level, bool make) {
     struct names_line *lines = LOAD(&names->levels[level]);
@@ -26,7 +26,7 @@ static struct names_line *names_level(struct names *names, int level, bool make)
 }
 
 static struct names_line *names_line(struct names_line *lines, int level, uint64_t key) {
-    return &lines[mixed(key) >> 7 & ((UINT64_C(1) << names_bits[level]) - 1)];
+    return &lines[mixed(key) >> (7 + 4 * level) & ((UINT64_C(1) << names_bits[level]) - 1)];
 }
 
 static uint32_t *find_name(struct names *names, uint64_t key, bool add) {
