@@ -8,11 +8,12 @@
 #ifndef LOCKDEP_RAW_H
 #define LOCKDEP_RAW_H
 
+#include <stdbool.h>
 #include <stdint.h>
 #include <string.h>
 
-/* "lockrecf", little endian: its last letter is another one when what follows is laid out in another way. */
-#define RAW_MAGIC UINT64_C(0x666365726b636f6c)
+/* "lockrecg", little endian: its last letter is another one when what follows is laid out in another way. */
+#define RAW_MAGIC UINT64_C(0x676365726b636f6c)
 
 /* The file's size, if no limit forbids it, and the size under which a recording may well be too small. */
 #define RAW_BYTES (UINT64_C(4) << 30)
@@ -96,12 +97,16 @@ struct raw_module {
 #define RAW_ARRAY 1
 #define RAW_MAPPED 2 /* it isn't an array: the program mapped the memory itself */
 
+/* A program has many stacks, of which few outer parts differ: so a place has its innermost callers, and the place of the others. */
+#define RAW_NEAR 4
+
 struct raw_place {
-    uint64_t count; /* how many callers there are; written last */
+    uint32_t count; /* how many callers there are; written last */
+    uint32_t rest;  /* the place of those after the first RAW_NEAR */
     uint64_t element; /* what was asked for there; 0 if it is nothing of these */
     uint64_t bytes;   /* of a piece of memory with a lock that was allocated there; 0 if there was none */
     uint64_t steps;   /* by multiples of this other such pieces are longer or shorter */
-    uint64_t callers[RAW_FRAMES];
+    uint64_t callers[RAW_NEAR];
 };
 
 /* By what a lock is known: where it was initialised, its symbol, where its memory was allocated, the function in whose frame it lies,
@@ -394,6 +399,19 @@ static inline uint32_t raw_size(enum raw_kind kind) {
 static inline uint64_t raw_at(const struct raw_region *region, enum raw_kind kind, uint32_t number) {
     uint64_t from = number <= region->first ? region->first_from : region->from;
     return from + (uint64_t)(number - 1) * raw_size(kind);
+}
+
+/* Puts all callers of a place into an array of RAW_FRAMES, and returns how many there are. */
+static inline uint32_t raw_callers(const struct raw_arena *a, const struct raw_place *place, uint64_t *callers) {
+    const struct raw_region *region = &a->regions[RAW_PLACES];
+    uint32_t count = 0;
+    while (place && place->count) {
+        for (uint32_t i = 0; i < RAW_NEAR && i < place->count && count < RAW_FRAMES; i++)
+            callers[count++] = place->callers[i];
+        bool has_rest = count < RAW_FRAMES && place->rest && place->rest <= region->used && place->rest <= region->room;
+        place = has_rest ? (const struct raw_place *)((const char *)a + raw_at(region, RAW_PLACES, place->rest)) : 0;
+    }
+    return count;
 }
 
 /* In which chunk a record lies; its place in it is `index` less chunk_start. */

@@ -182,9 +182,9 @@ uint64_t global_word(const struct arena *a, uint64_t raw) {
 }
 
 /* The first of callers that is of the program itself; the first of all if none is. */
-static uint32_t first_of_program(const struct arena *a, const struct raw_place *from, uint32_t last) {
+static uint32_t first_of_program(const struct arena *a, const uint64_t *callers, uint32_t last) {
     for (uint32_t i = 0; i < last; i++)
-        if (is_of_program(global_word(a, from->callers[i])))
+        if (is_of_program(global_word(a, callers[i])))
             return i;
     return 0;
 }
@@ -207,17 +207,18 @@ static void note_maker(struct place *place, uint64_t word) {
 
 /* The callers without the frames that start a thread or a program, and without the innermost wrappers. */
 static void read_place(struct arena *a, struct place *to, const struct raw_place *from) {
-    uint32_t last = from->count < RAW_FRAMES ? (uint32_t)from->count : RAW_FRAMES, first = 0;
-    while (last > 1 && is_start(global_word(a, from->callers[last - 1])))
+    uint64_t callers[RAW_FRAMES];
+    uint32_t last = raw_callers(a->raw, from, callers), first = 0;
+    while (last > 1 && is_start(global_word(a, callers[last - 1])))
         last--;
-    while (first + 1 < last && is_passed(to, global_word(a, from->callers[first])))
+    while (first + 1 < last && is_passed(to, global_word(a, callers[first])))
         first++;
-    if (first + 1 == last && is_passed(to, global_word(a, from->callers[first])))
-        first = first_of_program(a, from, last);
+    if (first + 1 == last && is_passed(to, global_word(a, callers[first])))
+        first = first_of_program(a, callers, last);
     for (uint32_t i = 0; i < first; i++)
-        note_maker(to, global_word(a, from->callers[i]));
+        note_maker(to, global_word(a, callers[i]));
     for (uint32_t i = first; i < last; i++)
-        to->words[to->count++] = global_word(a, from->callers[i]);
+        to->words[to->count++] = global_word(a, callers[i]);
 }
 
 const struct place *place_numbered(struct arena *a, uint32_t number) {

@@ -143,8 +143,10 @@ enum request request_of(struct arena *a, uint32_t number) {
     if (!raw || !place->count)
         return ASKED_UNKNOWN;
     enum request request = raw->element == RAW_ARRAY ? ASKED_ARRAY : ASKED_UNKNOWN;
-    for (uint32_t i = 0; i < raw->count && i < RAW_FRAMES && request == ASKED_UNKNOWN; i++) {
-        uint64_t word = global_word(a, raw->callers[i]);
+    uint64_t callers[RAW_FRAMES];
+    uint32_t count = raw_callers(a->raw, raw, callers);
+    for (uint32_t i = 0; i < count && request == ASKED_UNKNOWN; i++) {
+        uint64_t word = global_word(a, callers[i]);
         if (word == place->words[0])
             return request_by_inlined(word);
         request = request_by_symbol(word);

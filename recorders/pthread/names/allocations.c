@@ -170,22 +170,28 @@ static void search_caller(uint64_t word, uint64_t depth, bool is_asking, struct 
     s->of_program += !is_of_library(function_name(scopes, count, 0));
 }
 
-/* The caller that asked for the memory, which isn't what is `operator new` itself. */
-static uint64_t asking_caller(const struct raw_place *place) {
+/* The callers where memory was allocated, and which of them asked for it, which isn't what is `operator new` itself. */
+struct asking {
+    uint64_t callers[RAW_FRAMES + 1]; /* and a word of no module */
+    uint64_t count, which;
+};
+
+static struct asking asking_at(const struct raw_place *place) {
+    struct asking a = {.which = 0};
     const struct loaded *in;
-    uint64_t i = 0;
-    while (i < place->count && i < RAW_FRAMES && (in = loaded_numbered(raw_word_module(place->callers[i]))) &&
+    a.count = callers_of(place, a.callers);
+    while (a.which < a.count && (in = loaded_numbered(raw_word_module(a.callers[a.which]))) &&
            strncmp(base_of(in->module->path), "libstdc++", 9) == 0)
-        i++;
-    return i;
+        a.which++;
+    return a;
 }
 
 bool search_allocation(const struct raw_place *place, struct found *found) {
     struct searched s = {.of_program = 0};
-    uint64_t asking = asking_caller(place);
+    struct asking a = asking_at(place);
     element = place->element > RAW_MAPPED ? place->element : 0;
-    for (uint64_t i = 0; i < place->count && i < MOST_CALLERS && s.of_program < MOST_OF_PROGRAM && !s.template.rule; i++)
-        search_caller(place->callers[i], i, i == asking, &s);
+    for (uint64_t i = 0; i < a.count && i < MOST_CALLERS && s.of_program < MOST_OF_PROGRAM && !s.template.rule; i++)
+        search_caller(a.callers[i], i, i == a.which, &s);
     *found = s.template.rule ? s.template : s.constructor.rule ? s.constructor : s.variable;
     return found->rule != RULE_NONE;
 }
@@ -200,11 +206,11 @@ static bool has_all_types(Dwarf_Die *unit) {
 }
 
 /* The module of the code that allocated, and its unit, if that has debug information with all types that it uses. */
-static struct module *allocating_module(const struct raw_place *place, Dwarf_Die *unit) {
-    uint64_t i = asking_caller(place);
-    const struct loaded *in = i < place->count && i < RAW_FRAMES ? loaded_numbered(raw_word_module(place->callers[i])) : NULL;
+static struct module *allocating_module(const struct asking *a, Dwarf_Die *unit) {
+    uint64_t caller = a->callers[a->which];
+    const struct loaded *in = loaded_numbered(raw_word_module(caller));
     Dwarf_Die function;
-    if (!in || !function_at(in->module, raw_word_offset(place->callers[i]) - 1, &function) || !dwarf_diecu(&function, unit, NULL, NULL))
+    if (!in || !function_at(in->module, raw_word_offset(caller) - 1, &function) || !dwarf_diecu(&function, unit, NULL, NULL))
         return NULL;
     return has_all_types(unit) ? in->module : NULL;
 }
@@ -255,22 +261,23 @@ static bool is_for_no_class(Dwarf_Die *variable) {
 
 /* Memory that locks are put into by hand: an array is one of bytes, what the C++ library allocates is for what its templates say, and what
    is kept in a pointer to no class is for none. */
-static bool may_be_raw(struct module *m, const struct raw_place *place) {
+static bool may_be_raw(struct module *m, const struct raw_place *place, const struct asking *a) {
     static Dwarf_Die scopes[SCOPES];
-    uint64_t asking = asking_caller(place), after = raw_word_offset(place->callers[asking]);
+    uint64_t after = raw_word_offset(a->callers[a->which]);
     int count = scopes_at(m, after - 1, scopes);
     Dwarf_Die variable;
-    return place->element == RAW_ARRAY || asking > OPERATOR_NEW || is_of_library(function_name(scopes, count, 0)) ||
+    return place->element == RAW_ARRAY || a->which > OPERATOR_NEW || is_of_library(function_name(scopes, count, 0)) ||
            (variable_there(m, scopes, count, after, &variable) && is_for_no_class(&variable));
 }
 
 /* Only of what `operator new` gave: what C code asks for may have no type at all. */
 bool by_size(const struct raw_place *place, struct found *found) {
     Dwarf_Die unit;
-    struct module *m = asking_caller(place) ? allocating_module(place, &unit) : NULL;
+    struct asking a = asking_at(place);
+    struct module *m = a.which ? allocating_module(&a, &unit) : NULL;
     const char *only;
     element = 0;
-    if (!m || may_be_raw(m, place) || !only_of_size(m, &unit, false, &only))
+    if (!m || may_be_raw(m, place, &a) || !only_of_size(m, &unit, false, &only))
         return false;
     *found = (struct found){RULE_SIZE, only};
     return true;
@@ -278,8 +285,8 @@ bool by_size(const struct raw_place *place, struct found *found) {
 
 /* What may be of before is not, if nothing else can be there. */
 bool is_confirmed_by_size(const struct raw_place *place, const char *text) {
-    uint64_t i = asking_caller(place);
-    const struct loaded *in = i < place->count && i < RAW_FRAMES ? loaded_numbered(raw_word_module(place->callers[i])) : NULL;
+    struct asking a = asking_at(place);
+    const struct loaded *in = loaded_numbered(raw_word_module(a.callers[a.which]));
     const char *only;
     element = 0;
     return in && only_of_size(in->module, NULL, false, &only) && strcmp(only, text) == 0;

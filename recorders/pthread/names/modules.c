@@ -173,6 +173,8 @@ bool open_arena(const char *path) {
     return true;
 }
 
+uint32_t callers_of(const struct raw_place *place, uint64_t *callers) { return raw_callers(arena, place, callers); }
+
 const struct loaded *loaded_numbered(uint32_t number) {
     return number && number <= loaded_count && loaded[number].module->file ? &loaded[number] : NULL;
 }

@@ -91,9 +91,10 @@ struct loaded { /* a module where a process had it */
     uint64_t bias;
 };
 
-bool open_arena(const char *path); /* what the next four tell of */
+bool open_arena(const char *path); /* what the next five tell of */
 uint32_t count_of(enum raw_kind kind);
 const void *part_of(enum raw_kind kind, uint32_t number);
+uint32_t callers_of(const struct raw_place *place, uint64_t *callers); /* as raw_callers */
 const struct loaded *loaded_at(uint64_t address);      /* NULL also if it isn't clear which */
 const struct loaded *loaded_numbered(uint32_t number); /* of the arena's modules */
 bool has_debug(struct module *m); /* opens its debug information, which may take long */

@@ -24,10 +24,11 @@ static const void *entry_of(const struct loaded *in, uint64_t address) {
 }
 
 static void read_callers(const struct raw_place *place, struct callers *c) {
-    c->count = place->count < RAW_FRAMES ? place->count : RAW_FRAMES;
+    uint64_t words[RAW_FRAMES];
+    c->count = callers_of(place, words);
     for (uint64_t i = 0; i < c->count; i++) {
-        c->after[i] = raw_word_offset(place->callers[i]);
-        c->functions[i] = entry_of(loaded_numbered(raw_word_module(place->callers[i])), c->after[i] - 1);
+        c->after[i] = raw_word_offset(words[i]);
+        c->functions[i] = entry_of(loaded_numbered(raw_word_module(words[i])), c->after[i] - 1);
     }
     c->is_whole = c->count && !c->functions[c->count - 1];
 }

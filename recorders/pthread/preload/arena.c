@@ -59,7 +59,7 @@ static const struct {
     [RAW_PROGRAMS] = {1, 1 << 10, 0},  [RAW_LOOKS] = {1, 0xffff, 0},      [RAW_TEXTS] = {1, 1 << 12, 0},
     [RAW_BREACHES] = {1, 1 << 12, 0},  [RAW_LIVES] = {1, 1 << 20, 0},  [RAW_SOURCES] = {1, 1 << 10, 0},
     [RAW_RUNS] = {1, 1 << 20, 0},      [RAW_STATES] = {1, 1 << 14, 0},
-    [RAW_MODULES] = {10, 1 << 13, 5},  [RAW_PLACES] = {12, 1 << 20, 24},
+    [RAW_MODULES] = {10, 1 << 13, 5},  [RAW_PLACES] = {12, (1 << 21) - 1, 56},
 };
 
 /* In which order the first ones lie, and which kinds come after the first records. Places are last, since of them most are unused. */

@@ -14,16 +14,34 @@ static uint64_t longer_key(uint64_t key, const struct stack *stack, uint32_t fro
 
 static uint64_t stack_key(const struct stack *stack) { return mixed(longer_key(begun_key(stack), stack, 1, stack->count)); }
 
-static uint32_t define_place(const struct stack *stack) {
-    uint32_t number = take_part(RAW_PLACES);
+/* ... of the callers from one on. */
+static uint32_t define_place_from(const struct stack *stack, uint32_t from, uint32_t rest) {
+    uint32_t number = take_part(RAW_PLACES), count = stack->count - from;
     if (!number)
         return 0;
     struct raw_place *place = part_of(RAW_PLACES, number);
-    for (uint32_t i = 0; i < stack->count; i++)
-        place->callers[i] = word_of(stack->callers[i]);
-    place->element = stack->element;
-    STORE(&place->count, stack->count);
+    for (uint32_t i = 0; i < count && i < RAW_NEAR; i++)
+        place->callers[i] = word_of(stack->callers[from + i]);
+    place->rest = rest;
+    place->element = from ? 0 : stack->element;
+    STORE(&place->count, count);
     return number;
+}
+
+/* From the outermost callers on. */
+static uint32_t define_place(const struct stack *stack) {
+    uint32_t rest = 0;
+    for (uint32_t from = (stack->count - 1) / RAW_NEAR * RAW_NEAR; from; from -= RAW_NEAR) {
+        uint32_t to = from + RAW_NEAR < stack->count ? from + RAW_NEAR : stack->count;
+        uint32_t *slot = added_slot(&places, mixed(longer_key(rest, stack, from, to)));
+        if (!slot)
+            return 0;
+        uint32_t known = LOAD(slot);
+        rest = known ? known : settled(slot, define_place_from(stack, from, rest));
+        if (!rest)
+            return 0;
+    }
+    return define_place_from(stack, 0, rest);
 }
 
 uint32_t place_of(const struct stack *stack) {
@@ -379,6 +397,8 @@ static struct names calls_with_locks;      /* by the words of the innermost call
 
 static inline bool is_call(uint64_t word, uint64_t key) { return ((word ^ key) & ~ABOUT_CALL) == 0; }
 
+_Static_assert(INNERMOST <= RAW_NEAR, "a place has all innermost callers itself");
+
 static uint64_t key_of_words(const uint64_t *words) {
     uint64_t key = 0;
     for (uint32_t i = 0; i < INNERMOST; i++)
@@ -495,10 +515,10 @@ uint32_t place_of_piece(const struct asked *asked) {
 
 static bool is_place_gone(uint32_t number) {
     const struct raw_place *place = part_of(RAW_PLACES, number);
-    for (uint32_t i = 0; i < place->count; i++)
+    for (uint32_t i = 0; i < place->count && i < RAW_NEAR; i++)
         if (is_gone(raw_word_module(place->callers[i])))
             return true;
-    return false;
+    return place->rest && is_place_gone(place->rest);
 }
 
 static void forget_gone_place(uint32_t *value) {
