@@ -48,13 +48,13 @@ static void print_least(const char *how, bool has_places, bool has_steps) {
         if (i == 0 || took < least)
             least = took;
     }
-    printf("an operation %s: %.1f ns\n", how, least);
+    printf("an operation %s\trecorded\t%.1f\tns\n", how, least);
 }
 
 int main(void) {
     print_least("without places", false, false);
     print_least("with places", true, false);
     print_least("by a known step", true, true);
-    printf("a task: %zu bytes without its buffers\n", sizeof(struct ldr_task));
+    printf("a task without its buffers\trecorded\t%zu\tbytes\n", sizeof(struct ldr_task));
     return 0;
 }

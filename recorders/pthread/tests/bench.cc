@@ -109,6 +109,7 @@ static double processes(char *program, int count) {
 int main(int argc, char **argv) {
     const char *work = argc > 1 ? argv[1] : "";
     double took = !strcmp(work, "locks")     ? locks(5000000)
+                  : !strcmp(work, "few-locks") ? locks(50000)
                   : !strcmp(work, "deep")    ? deep(20, 5000000)
                   : !strcmp(work, "pieces")  ? pieces(5000000)
                   : !strcmp(work, "objects") ? objects(20000)
