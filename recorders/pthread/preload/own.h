@@ -130,7 +130,7 @@ static inline uint64_t block_line(uint64_t block, uint32_t line_bits) {
 /* Where in its line of eight slots something is looked for first: no two pieces that malloc gives out of one block have the same. */
 static inline uint64_t own_way(uint64_t address) { return address >> (BLOCK_BITS - 3) & 7; }
 
-#define NAMES_LEVELS 8
+#define NAMES_LEVELS 9
 struct names; /* from a number, the lowest bit of which doesn't matter, to a number, for what is defined once */
 struct names_line;
 struct names {

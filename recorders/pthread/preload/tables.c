@@ -3,46 +3,42 @@
 #include "own.h"
 
 /* ---- Names: from a number to a number. Nothing is ever taken out, so a line's slots are filled one after the other. A level is made for the
-   first few that the one before has no room for. They lie in as many pages, so after a level comes one of its own size before a larger one. */
+   first few that the one before has no room for. They lie in as many pages, so after a level comes none that is larger at once. */
 
 #define NAMES_WAYS 8
-struct names_line {
-    struct {
-        uint64_t key;
-        uint32_t value;
-    } slots[NAMES_WAYS];
+struct names_line { /* of the processor's; after all lines of a level come their values */
+    uint64_t keys[NAMES_WAYS];
 };
 
-static const uint32_t names_bits[NAMES_LEVELS] = {2, 7, 11, 11, 14, 14, 16, 18}; /* of the number of lines */
+static const uint32_t names_bits[NAMES_LEVELS] = {2, 7, 11, 11, 14, 12, 14, 16, 18}; /* of the number of lines */
+
+static uint64_t line_count(int level) { return UINT64_C(1) << names_bits[level]; }
+
+static uint32_t *values_of(struct names_line *lines, int level) { return (uint32_t *)(lines + line_count(level)); }
 
 static struct names_line *names_level(struct names *names, int level, bool make) {
     struct names_line *lines = LOAD(&names->levels[level]);
     if (lines || !make)
         return lines;
-    struct names_line *made = take_sparse_table(sizeof *made << names_bits[level]);
+    struct names_line *made = take_sparse_table((sizeof *made + NAMES_WAYS * sizeof(uint32_t)) << names_bits[level]);
     if (made && SWAP(&names->levels[level], &lines, made))
         return made;
     return lines;
 }
 
-static struct names_line *names_line(struct names_line *lines, int level, uint64_t key) {
-    return &lines[mixed(key) >> (7 + 4 * level) & ((UINT64_C(1) << names_bits[level]) - 1)];
-}
-
 static uint32_t *find_name(struct names *names, uint64_t key, bool add) {
-    for (int level = 0; level < NAMES_LEVELS; level++) {
+    uint64_t hash = mixed(key) >> 7;
+    for (int level = 0; level < NAMES_LEVELS; level++, hash >>= 4) {
         struct names_line *lines = names_level(names, level, add);
         if (!lines)
             return NULL;
-        struct names_line *line = names_line(lines, level, key);
+        uint64_t which = hash & (line_count(level) - 1);
         for (int i = 0; i < NAMES_WAYS; i++) {
-            uint64_t there = LOAD(&line->slots[i].key);
+            uint64_t *at = &lines[which].keys[i], there = LOAD(at);
             if (!there && !add)
                 return NULL;
-            if (!there && SWAP(&line->slots[i].key, &there, key))
-                return &line->slots[i].value;
-            if (there == key)
-                return &line->slots[i].value;
+            if ((!there && SWAP(at, &there, key)) || there == key)
+                return values_of(lines, level) + which * NAMES_WAYS + i;
         }
     }
     return NULL;
@@ -52,12 +48,12 @@ uint32_t *name_slot(struct names *names, uint64_t key) { return find_name(names,
 uint32_t *added_slot(struct names *names, uint64_t key) { return find_name(names, key | 1, true); }
 
 void each_name(struct names *names, void (*visit)(uint32_t *value)) {
-    for (int level = 0; level < NAMES_LEVELS && names->levels[level]; level++)
-        for (uint64_t i = 0; i < (uint64_t)NAMES_WAYS << names_bits[level]; i++) {
-            struct names_line *line = &names->levels[level][i / NAMES_WAYS];
-            if (LOAD(&line->slots[i % NAMES_WAYS].value))
-                visit(&line->slots[i % NAMES_WAYS].value);
-        }
+    for (int level = 0; level < NAMES_LEVELS && names->levels[level]; level++) {
+        uint32_t *values = values_of(names->levels[level], level);
+        for (uint64_t i = 0; i < NAMES_WAYS * line_count(level); i++)
+            if (LOAD(&values[i]))
+                visit(&values[i]);
+    }
 }
 
 /* ---- Locks: from an address to an object, in one word, so that a slot can be emptied and used again. An address is that of at
