@@ -273,10 +273,19 @@ static inline void put_place_at(uint64_t *word, uint64_t key, uint32_t place) {
 #define MOST_TINY_STACKS 32
 #define MET_STACKS 65536
 
-static struct names stacks_of_calls; /* how many stacks were met, by the innermost callers */
+static struct names stacks_of_calls; /* how many stacks were met after the first one, by the innermost callers */
 static uint64_t met_stacks[MET_STACKS] LARGE;
 
 static uint64_t *met_stack(uint64_t key) { return &met_stacks[(key >> 32) % MET_STACKS]; }
+
+/* Whether innermost callers were met before. Most are met once, so they have a bit alone; those who share one with others are counted once too often. */
+#define ONCE_BITS 19
+static uint64_t met_once[(1 << ONCE_BITS) / 64] LARGE;
+
+static bool were_met(uint64_t inner) {
+    uint64_t which = inner >> (64 - ONCE_BITS), bit = UINT64_C(1) << which % 64;
+    return __atomic_fetch_or(&met_once[which / 64], bit, __ATOMIC_RELAXED) & bit;
+}
 
 /* The place of a stack with this key, which is counted if it is new. */
 static uint32_t counted_place(const struct stack *stack, uint64_t key, uint32_t *met) {
@@ -294,8 +303,8 @@ static uint32_t counted_place(const struct stack *stack, uint64_t key, uint32_t 
 /* ... of a stack that isn't among those that were met last, by its key and that of its innermost callers. If these tell the call, the stack
    has no others any more. */
 static __attribute__((noinline)) uint32_t place_of_varied(const struct asked *asked, struct stack *stack, uint64_t whole, uint64_t inner) {
-    uint32_t *met = added_slot(&stacks_of_calls, inner);
-    if (stack->count <= INNERMOST || !met || LOAD(met) < (asked->is_tiny ? MOST_TINY_STACKS : MOST_STACKS))
+    uint32_t *met = were_met(inner) ? added_slot(&stacks_of_calls, inner) : NULL;
+    if (stack->count <= INNERMOST || !met || LOAD(met) + 1 < (asked->is_tiny ? MOST_TINY_STACKS : MOST_STACKS))
         return counted_place(stack, whole, met);
     stack->count = INNERMOST;
     return counted_place(stack, inner, met);

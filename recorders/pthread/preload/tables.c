@@ -3,7 +3,7 @@
 #include "own.h"
 
 /* ---- Names: from a number to a number. Nothing is ever taken out, so a line's slots are filled one after the other. A level is made for the
-   first few that the one before has no room for. They lie in as many pages, so after a level comes none that is larger at once. */
+   first few that the one before has no room for. Each of them would use a page of a large one, so one that isn't larger comes in between. */
 
 #define NAMES_WAYS 8
 struct names_line { /* of the processor's; after all lines of a level come their values */
