@@ -23,6 +23,7 @@ from lockdep.gather.gathered import Listed
 from lockdep.gather.orders import Seen
 from lockdep.places import places as places_of_traces
 from lockdep.places.places import Places, record_lines
+from lockdep.program import condensed
 from lockdep.program.checker import Answer
 from lockdep.program.findings import Event, findings_in_turn
 from lockdep.record import complete, summary
@@ -322,7 +323,7 @@ class Whole(unittest.TestCase):
         named = tuple((number,) for number in range(1, 17))
         lines = ["whole A/0 EN B/0  B/0 EN A/0", longer.decode()]  # which both have the order of A and B, and the latter alone that of C
         found = object.__new__(agreement.Agreement)
-        found.orders, found.marks = orders.facts_in(b"lockdep,1\nacq,A,0,w\nacq,B,0,w\nrel,B,0\nrel,A,0\nacq,B,0,w\nacq,A,0,w\nrel,A,0\nacq,C,0,w\nrel,C,0\nrel,B,0\n")
+        found.orders, found.marks = condensed.facts_in(b"lockdep,1\nacq,A,0,w\nacq,B,0,w\nrel,B,0\nrel,A,0\nacq,B,0,w\nacq,A,0,w\nrel,A,0\nacq,C,0,w\nrel,C,0\nrel,B,0\n")
         found.lots, found.there, found.fit = {(number,): "" for number in range(1, 21)}, Counter({"": 20}), set()
         for wholes, wrong in ((((10, named[:4]), (8, named[4:8])), []), (((10, named[:4]), (9, named[4:8])), lines),
                               (((2, named[:2]), (2, named[1:3])), lines), (((1, ((19,),)), (1, ((3,),))), lines[1:])):

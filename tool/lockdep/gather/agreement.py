@@ -8,11 +8,12 @@ from collections import Counter
 from ..base.saying import Refusal
 from ..base.words import text_of, visible
 from ..program.checker import REFUSED
+from ..program.condensed import LockOrder, facts_in
 from .gathered import FOLDED, FOLDED_LOCKS, LEFT, LEFT_OUT, MARK, ORDERS, PLACES, RECORDED, RECORDINGS, TRACE, TRACES, Gathered
 from .kept_places import entry_of
 from .memory import limited_memory, used_memory
 from .names import BETWEEN, TIMED_ORDER, WHOLE, owner_of
-from .orders import USED, LockOrder, Seen, at_levels, entries_of, facts_in, merge_tables, number_of_words, words_of_number
+from .orders import USED, Seen, at_levels, entries_of, merge_tables, number_of_words, words_of_number
 from .timed import entry_of as entry_of_locks
 
 TYPE_CHECKING = False

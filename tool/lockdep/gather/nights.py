@@ -7,10 +7,11 @@ import re
 
 from ..base.saying import Refusal
 from ..base.words import visible
+from ..program.condensed import HELD, MARKS, TAKEN, facts_in
 from .facts import Facts
 from .gathered import COUNTS, RECORDED, Listed
 from .names import TIMED_ORDER, WHOLE, owner_of
-from .orders import HELD, MARKS, TAKEN, Number, Seen, Table, entries_of, facts_in, number_of_words
+from .orders import Number, Seen, Table, entries_of, number_of_words
 
 BUILD = re.compile("[!-~]{1,64}")
 NIGHT = re.compile("[0-9]{4}-[0-9]{2}-[0-9]{2}")

@@ -8,6 +8,7 @@ from collections import Counter
 from operator import itemgetter
 from typing import Dict, Iterable, Tuple
 
+from ..program.condensed import LockOrder
 from .names import class_of, name_of_key, type_of
 
 MOST_NAMED = 16  # recordings of an order
@@ -17,12 +18,8 @@ MOST_ALIKE = 1 << 14  # kinds of entries that are kept in mind, since many are a
 MOST_NESTED = 256  # gathered folders in one another
 
 Number = Tuple[int, ...]
-LockOrder = Tuple[bytes, bytes, bytes]  # of two keys as a trace has them, with the kind between them
 Table = Dict[bytes, "Seen"]
 
-# What a condensed trace turns on, or what comes in, and which mark the locks behind it get.
-MARKS = {b"on,hardirq": b"hardirqs on", b"on,softirq": b"softirqs on", b"enter,hardirq": b"hardirq", b"enter,softirq": b"softirq"}
-HELD, TAKEN = {b"w": b" E", b"rr": b" S"}, {b"w": b"N ", b"rr": b"R "}
 USED = b"used %s "  # begins what the table calls a mark: `used hardirq KEY` in a hardirq, `used hardirqs on KEY` with hardirqs on
 
 
@@ -80,32 +77,6 @@ def count_in(words: str | bytes) -> int:
     if not words.isdigit() or len(words) > MOST_DIGITS:
         raise ValueError("%r is no count" % words[:MOST_DIGITS])
     return int(words)
-
-
-def facts_in(trace: bytes, records: list[int] | None = None) -> tuple[list[LockOrder], list[tuple[bytes, bytes]]]:
-    """What a condensed trace says: its orders, each of the held key, the kind, and the taken key; and its marks, each with its key. A key is
-    NAME,SUB. The list gets the record of each order."""
-    orders: list[tuple[bytes, bytes, bytes]] = []
-    marks: list[tuple[bytes, bytes]] = []
-    held, letter, mark, depth = b"", b"", b"", 0
-    for record, line in enumerate(trace.split(b"\n"), 1):
-        word = line[:4]
-        if word == b"rel,":
-            depth -= 1
-        elif word == b"acq,":
-            key, _, mode = line[4:].rpartition(b",")
-            if mark:
-                marks.append((mark, key))
-            elif depth:
-                orders.append((held, letter + TAKEN[mode], key))
-                if records is not None:
-                    records.append(record)
-            else:
-                held, letter = key, HELD[mode]
-            depth += 1
-        elif line in MARKS:
-            mark = MARKS[line]
-    return orders, marks
 
 
 def entries_of(orders: list[LockOrder], marks: list[tuple[bytes, bytes]]) -> set[bytes]:

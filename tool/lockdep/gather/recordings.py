@@ -16,6 +16,7 @@ from ..base.words import bytes_of, counted, reason_of, text_of, visible
 from ..places.places import why_too_many
 from ..program.checker import REFUSED, Answer
 from ..program.code_words import with_words
+from ..program.condensed import LockOrder, facts_in
 from ..record.complete import check_folder
 from ..record.complete import is_gathered
 from ..record.folder import OBJECTS
@@ -31,7 +32,7 @@ from .gathered import FOLDED, FOLDED_LOCKS, FORMAT_2, MARK, RECORDED, TRACE, TRA
 from .kept_places import lines_in, text_of_lines
 from .names import NoRoom, in_recording, is_lock, is_rest, keys_in, name_of_key, rest_of
 from .nights import Kept, forget
-from .orders import MOST_NESTED, LockOrder, Seen, Table, entries_of, facts_in, merge_tables, orders_of_locks, seen_once
+from .orders import MOST_NESTED, Seen, Table, entries_of, merge_tables, orders_of_locks, seen_once
 from .timed import renamed, timed_table
 from .whole import UNCOUNTED, whole_entries
 

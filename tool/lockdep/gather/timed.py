@@ -9,11 +9,12 @@ from ..ask.timed import gone_without, lines_between_locks, marked_in, with_tries
 from ..base.files import write_in_place
 from ..base.words import bytes_of
 from ..program.checker import REFUSED
+from ..program.condensed import LockOrder, facts_in
 from ..program.findings import Finding
 from ..program.verdicts import Judgement, Level, Reason, Verdict
 from .facts import Program
 from .names import TIMED_ENTRY, TIMED_ORDER, in_recording, name_of_key, recording_of
-from .orders import LockOrder, Seen, Table, facts_in, seen_once
+from .orders import Seen, Table, seen_once
 
 
 def entry_of(order: LockOrder) -> bytes:

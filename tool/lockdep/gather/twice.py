@@ -9,11 +9,12 @@ import os
 
 from ..base.saying import Refusal
 from ..base.words import visible
+from ..program.condensed import facts_in
 from ..record.complete import is_gathered
 from .facts import Facts
 from .gathered import Listed
 from .names import is_lock, keys_in, name_in_recording, name_of_key, quoted, rest_of, with_names
-from .orders import Number, facts_in
+from .orders import Number
 from .recordings import Bad, Task, facts_of, kept_part, sum_of
 from .memory import limited_memory, used_memory
 from .timed import renamed, timed_orders

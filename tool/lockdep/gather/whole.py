@@ -8,8 +8,9 @@ from itertools import chain, compress
 from operator import and_
 from typing import Dict, Iterable, List, Set, Tuple
 
+from ..program.condensed import LockOrder
 from .names import BETWEEN, WHOLE
-from .orders import USED, LockOrder, Seen, Table, at_levels, merge_tables
+from .orders import USED, Seen, Table, at_levels, merge_tables
 
 MOST_PARTS = 4096  # orders and marks of an entry
 ROUNDS = 8  # in which arrows are taken away that lead nowhere, before all others are looked at
