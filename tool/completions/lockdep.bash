@@ -11,7 +11,7 @@ _lockdep_options() {
         schedule) echo --json --help ;;
         chains) echo --help ;;
         record) echo -o --output --recorder --frames --signals --history --no-wait --finish --histories --summary --accept-left-out --help ;;
-        confirm) echo --confirmed-only -v --verbose --color --html --sarif --junit --json --help ;;
+        confirm) echo --confirmed-only -v --verbose --all --color --html --sarif --junit --json --help ;;
         report) echo --help ;;
         gather) echo -o --output --list --processes --scheduler --insecure --group --skip-bad --accept-left-out --add --night --build --since --forget-build --known --suppressions --write-known --error-exitcode --source --confirmed-only --html --sarif --junit --json --help ;;
         where) echo --help ;;

@@ -86,6 +86,7 @@ complete -c lockdep -n '__lockdep_in record' -l summary -x -a '(__fish_complete_
 complete -c lockdep -n '__lockdep_in record' -l accept-left-out -x -d 'Do not count this as left out'
 complete -c lockdep -n '__lockdep_in confirm' -l confirmed-only -d 'Status 1 only for what happened, is possible or not known'
 complete -c lockdep -n '__lockdep_in confirm' -s v -l verbose -d 'Write all that is known of each finding'
+complete -c lockdep -n '__lockdep_in confirm' -l all -d 'Write each finding of a kernel'
 complete -c lockdep -n '__lockdep_in confirm' -l color -x -a 'auto always never' -d 'When to print in colours'
 complete -c lockdep -n '__lockdep_in confirm' -l html -r -d 'Where the page goes'
 complete -c lockdep -n '__lockdep_in confirm' -l sarif -r -d 'Write the findings as SARIF'

@@ -63,6 +63,7 @@ class Asked:
         from ..program.findings import Between, findings_of, numbered
         from ..program.verdicts import Level
         from ..record import summary
+        from ..record.kernels import is_of_kernel
         from .blocked import standing_at_end
         from .judging import AtEnd, judge
         from .verdict import Recorded, by_importance
@@ -78,6 +79,9 @@ class Asked:
         for finding in self.signals.findings if self.signals else ():
             finding.place = len(findings) + 1
             findings.append(finding)
+        if is_of_kernel(self.folder):
+            from .causes import by_cause
+            return numbered(by_cause(findings, self.traces))
         ranked = numbered(by_importance(findings))  # whatever happens later, they keep their numbers
         if os.path.exists(os.path.join(self.folder, PROVOKED)):
             from .happened import take_happened

@@ -39,7 +39,8 @@ class Wanted:
         if "" in line.rest:
             raise Refusal("a folder has a name")
         self.folder = "".join(line.rest)
-        self.is_confirmed_only, self.is_verbose, self.color = line.has("--confirmed-only"), line.has("--verbose"), line.last("--color")
+        self.is_confirmed_only, self.is_verbose, self.is_all = line.has("--confirmed-only"), line.has("--verbose"), line.has("--all")
+        self.color = line.last("--color")
         self.forms = forms_in(line)
 
 
@@ -107,13 +108,13 @@ def depths_in(folder: str, asked: Asked, findings: list[Finding]) -> dict[int, i
 
 
 def write_findings(folder: str, asked: Asked, findings: list[Finding], breaches: list[Breach], is_verbose: bool, color: str = "", head: str = "",
-                   below: Sequence[str] = ()) -> None:
+                   below: Sequence[str] = (), is_all: bool = True) -> None:
     recorded = Recorded(asked.traces, read(folder, HOME))
     recorded.depths = depths_in(folder, asked, findings) if findings and not is_of_kernel(folder) else {}
     sources = sources_of(findings, [folder])
     sources_wanted(breaches, sources)
     sources.ask()
-    write_blocks(findings, breaches, sources, recorded, is_verbose, color, head, below)
+    write_blocks(findings, breaches, sources, recorded, is_verbose, color, head, below, is_all)
 
 
 def are_written(folder: str, asked: Asked, forms: dict[str, str], is_confirmed_only: bool) -> bool:
@@ -143,7 +144,7 @@ def main(words: list[str]) -> int:
             return 2
         findings, breaches = asked.findings(), breaches_in(folder)
         if STANDARD_OUTPUT not in wanted.forms.values():
-            write_findings(folder, asked, findings, breaches, wanted.is_verbose, wanted.color)
+            write_findings(folder, asked, findings, breaches, wanted.is_verbose, wanted.color, is_all=wanted.is_all or not is_of_kernel(folder))
         if wanted.forms and not are_written(folder, asked, wanted.forms, wanted.is_confirmed_only):
             return 2
     if asked.left_out or (not findings and why_incomplete(folder)):

@@ -266,6 +266,7 @@ GATHER = Command("gather", "check recordings from many machines together", "Chec
 CONFIRM = Command("confirm", "explain what was found in a recording, with the verdict of each finding", "", ("[OPTIONS] [FOLDER]",), "folder", [
     Option("--confirmed-only", None, "status 1 only for what happened, is possible or not known", "", unlisted=("--strict",)),
     Option("--verbose", None, "write all that is known of each finding", "", others=("-v",)),
+    Option("--all", None, "write each finding of a kernel", ""),
     Option("--color", COLOR, "when to print in colours", ""),
     Option("--html", OUTPUT, "where the page goes", ""),
     Option("--sarif", OUTPUT, "write the findings as SARIF", ""),

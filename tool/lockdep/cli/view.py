@@ -4,8 +4,9 @@ from __future__ import annotations
 import os
 import sys
 
-from ..ask.lives import folder_of
+from ..ask.causes import by_cause
 from ..ask.happened import take_happened
+from ..ask.lives import folder_of
 from ..ask.verdict import Recorded, by_importance
 from ..base.files import STANDARD_OUTPUT, complain, is_file, same_file, text_named, write_form
 from ..base.saying import Refusal
@@ -14,7 +15,7 @@ from ..known.known import sort
 from ..known.suppressions import WHAT, entries_of
 from ..places.sources import sources_of
 from ..program.checker import REFUSED, answer_of
-from ..program.findings import Finding, findings_of
+from ..program.findings import Finding, findings_of, numbered
 from ..record.folder import SIGNALS
 from ..record.kernels import left_out
 from ..say.forms import text_of_form
@@ -95,8 +96,11 @@ def found_in(given: dict[str, str], files: list[str]) -> Found:
         raise Refusal("`explain --json` ended with status %d and wrote %s" % (answer.status, counted(len(findings), "finding")))
     findings = with_happened(findings, files)
     sources = sources_of(findings)
-    result = sort(findings, [], entries, sources)
-    return Found(result.new, result.known, sources, Recorded(files), files, left_out(files), raw=answer.output)
+    result, recorded = sort(findings, [], entries, sources), Recorded(files)
+    if recorded.is_kernels():
+        result.new = by_cause(result.new, files)
+        numbered(result.new + result.known)
+    return Found(result.new, result.known, sources, recorded, files, left_out(files), raw=answer.output)
 
 
 def with_happened(findings: list[Finding], files: list[str]) -> list[Finding]:

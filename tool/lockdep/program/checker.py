@@ -34,11 +34,11 @@ class Answer:
         return first[len(SAID_BY):] if first.startswith(SAID_BY) else first or "it ended with status %d" % self.status
 
 
-def ask(words: list[str], with_errors: bool = False) -> Answer:
-    """Runs the checker. With errors, its standard error is kept and not shown."""
+def ask(words: list[str], with_errors: bool = False, path: str = "") -> Answer:
+    """Runs the checker, or its program if that is named. With errors, its standard error is kept and not shown."""
     import subprocess
     try:
-        done = subprocess.run([program()] + [bytes_of(word) for word in words], stdin=subprocess.DEVNULL,
+        done = subprocess.run([path or program()] + [bytes_of(word) for word in words], stdin=subprocess.DEVNULL,
                               stdout=subprocess.PIPE, stderr=subprocess.PIPE if with_errors else None)
     except OSError as error:
         raise Refusal("%s can't be run: %s" % (visible(program()), reason_of(error)), 3)

@@ -4,6 +4,7 @@ from __future__ import annotations
 import json
 from dataclasses import dataclass, field
 from itertools import takewhile
+from typing import Tuple
 
 from ..base.saying import Refusal
 from ..base.words import text_of, visible
@@ -18,6 +19,8 @@ if TYPE_CHECKING:
 
 VERSIONS = (1, 2, 3)
 STATES = ("hardirq", "softirq")
+
+Fact = Tuple[str, ...]  # an order as findings have it, or a usage mark with its key
 
 
 @dataclass(frozen=True)
@@ -107,6 +110,7 @@ class Finding:
     happened: Happened | None = None  # in a run of `lockdep provoke`
     attempts: Attempts | None = None  # all of its runs
     handler: Handler | None = None  # of a signal, if it is what comes in
+    cause: Cause | None = field(default=None, compare=False, repr=False)  # of a kernel's: it knows its findings
 
     @property
     def rule(self) -> str:
@@ -179,6 +183,20 @@ class Finding:
         """Those, and the ones that the finding between single locks names."""
         inner = self.between.finding.own_events() if self.between and self.between.finding else []
         return list(dict.fromkeys(self.own_events() + inner))
+
+
+@dataclass
+class Cause:
+    """An acquisition that findings go through: the orders and marks that it makes in them, first the one of most; how many of all traces have these, at most;
+    whether more traces have all else that is in them; and of how many findings they are. The first of them, a shortest one, has the first order or mark."""
+
+    held: Event
+    facts: list[Fact]
+    traces: int
+    all_traces: int
+    is_rarest: bool
+    findings: list[Finding]
+    all_findings: int
 
 
 # ---- Reading.

@@ -4,11 +4,16 @@ from __future__ import annotations
 import re
 
 EDGE = re.compile(r'  "((?:[^"\\]|\\.)*)" -> "((?:[^"\\]|\\.)*)" \[label="([^"]*)"')
+NODE = re.compile(r'  "((?:[^"\\]|\\.)*)" \[label=')
+
+
+def key_in(quoted: str) -> str:
+    """The key that stands between double quotes."""
+    return re.sub(r"\\(.)", r"\1", quoted)
 
 
 def keys_of_edge(found: re.Match) -> tuple[str, str]:
-    key, other = (re.sub(r"\\(.)", r"\1", part) for part in found.groups()[:2])
-    return key, other
+    return key_in(found.group(1)), key_in(found.group(2))
 
 
 def edges_of(graph: str) -> list[tuple[str, str]]:

@@ -16,6 +16,7 @@ from ..places.sources import Sources
 from ..program.checker import text_answer
 from ..program.findings import Finding
 from ..record.summary import Summary
+from .cause_words import cause_words, doing_words, is_told
 from .judged import ring_of
 from .sentences import Names, mending, row_words, rows_of, title, verdict_lines
 from .verdict_words import remarks_of
@@ -75,9 +76,33 @@ class Found:
         return self.all_names
 
     @property
+    def has_causes(self) -> bool:
+        """Whether the findings are sorted by their causes, as those of a kernel."""
+        return any(finding.cause for finding in self.findings)
+
+    def is_told(self, finding: Finding) -> bool:
+        """Whether forms other than JSON have a finding: of those that have one cause, the first."""
+        return finding.cause is None or finding is finding.cause.findings[0]
+
+    @property
+    def told(self) -> list[Finding]:
+        return list(filter(self.is_told, self.findings))
+
+    @property
     def shown(self) -> list[Finding]:
         """The findings that are shown one by one, by a form for people."""
-        return self.findings
+        return self.told
+
+    @property
+    def untold(self) -> str:
+        """How many findings other forms than JSON don't have, in words; empty if they have all."""
+        left = len(self.findings) - len(self.told)
+        return "%s the same causes. %s" % (counted(left, "more finding has", "more findings have"), self.who_has_all) if left else ""
+
+    @property
+    def who_has_all(self) -> str:
+        """Which forms have all findings."""
+        return "The JSON has all." if self.has_causes else "The JSON, SARIF and JUnit have all."
 
     @property
     def why_undrawn(self) -> str:
@@ -107,13 +132,18 @@ class Found:
         return self.once(remarks_of, finding, self.recorded)
 
     def all_remarks(self, finding: Finding) -> list[str]:
-        """The remarks, of which the verdict says how the steps stand still, or what keeps them apart, if that is known; and what mends a cycle. (Of a signal
-        that is a remark.)"""
+        """The cause of a kernel's finding; the remarks, of which the verdict says how the steps stand still, or what keeps them apart, if that is known; and
+        what mends a cycle. (Of a signal that is a remark.)"""
         mend = "" if finding.handler else self.once(mending, finding, self.sources, self.recorded, self.names)
         remarks = self.remarks(finding)
         if ring_of(finding) and not finding.happened:
             remarks = remarks[:-1] + self.once(verdict_lines, finding, self.sources, self.recorded)
-        return remarks + (["to mend it: " + mend] if mend else [])
+        return self.cause_lines(finding) + remarks + (["to mend it: " + mend] if mend else [])
+
+    def cause_lines(self, finding: Finding) -> list[str]:
+        """What the finding goes through, if others do, too, or if it is rare; and what is done there."""
+        cause = finding.cause
+        return [cause_words(cause, self.names), doing_words(cause, self.sources, self.names)] if cause and is_told(cause) else []
 
     def verdict_of(self, finding: Finding) -> str:
         """The verdict behind a finding in a list; empty if nothing was asked, or if the traces are of a kernel."""

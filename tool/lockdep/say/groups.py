@@ -1,23 +1,25 @@
-"""Findings that share an order are one group: often it is one order that contradicts many others."""
+"""Findings that share an order are one group: often it is one order that contradicts many others. Those of a kernel are one by their cause."""
 from __future__ import annotations
 
 from dataclasses import dataclass
 from typing import Tuple
 
-from ..program.findings import Finding
+from ..program.findings import Cause, Finding
 
 Dependency = Tuple[str, str, str]
 Key = Tuple[Dependency, object]  # an order, and a signal's handler if the findings have one
 MOST_GROUPS = 20  # that are told at once, on a terminal and of what was gathered
 MOST_OTHERS = 20  # findings of a group of what was gathered that are named, besides the first one
+MOST_BESIDE = 5  # the same of a kernel's cause
 
 
 @dataclass
 class Group:
-    """Findings, in their order, that all have one order; nothing if there is only one finding."""
+    """Findings, in their order, that all have one order, none if there is only one finding, or one cause."""
 
     findings: list[Finding]
     order: Dependency | None = None
+    cause: Cause | None = None
 
     @property
     def shared(self) -> str:
@@ -51,3 +53,11 @@ def groups_of(findings: list[Finding]) -> list[Group]:
 def groups_told(findings: list[Finding]) -> list[Group]:
     """The groups of what was gathered that are told: each finding by itself, unless there are too many; then the first groups."""
     return [Group([finding]) for finding in findings] if len(findings) <= MOST_GROUPS else groups_of(findings)[:MOST_GROUPS]
+
+
+def groups_by_cause(findings: list[Finding]) -> list[Group]:
+    """The groups of a kernel's findings. One without a cause is alone."""
+    groups: dict[int, Group] = {}
+    for finding in findings:
+        groups.setdefault(id(finding.cause or finding), Group([], cause=finding.cause)).findings.append(finding)
+    return list(groups.values())

@@ -57,9 +57,9 @@ def blocked_case(thread: Blocked | Breach, found: Found) -> str:
 def junit(found: Found) -> str:
     """The suite. If nothing new was found it has a passed case; if the recording left something out there is a case with an
     error, and none is passed."""
-    cases = [finding_case(finding, found) for finding in found.findings] + [blocked_case(thread, found) for thread in
+    cases = [finding_case(finding, found) for finding in found.told] + [blocked_case(thread, found) for thread in
                                                                             found.blocked + found.breaches]
-    skipped = sum(is_skipped(finding, found) for finding in found.findings)
+    skipped = sum(is_skipped(finding, found) for finding in found.told)
     failures = len(cases) - skipped
     if found.left_out:
         said = escaped("Not all was checked. Left out: %s." % found.left_out)

@@ -85,7 +85,7 @@ def header(found: Found) -> str:
             sum(other == reason for _, other in found.libraries), escaped(reason))
     if found.findings:
         left = len(found.findings) - len(found.shown)
-        more = "<p>%s not on this page. The JSON, SARIF and JUnit have all.</p>\n" % counted(left, "more finding is", "more findings are") if left else ""
+        more = "<p>%s not on this page. %s</p>\n" % (counted(left, "more finding is", "more findings are"), found.who_has_all) if left else ""
         return said + finding_list(found.shown, "Findings", found) + more + legend(found.shown) + "</header>\n"
     return said + "<p>This says nothing about what isn’t in the traces.</p>\n</header>\n"
 
@@ -96,10 +96,10 @@ def legend(findings: list[Finding]) -> str:
 
 def finding_list(findings: list[Finding], label: str, found: Found, last: str = "") -> str:
     """The findings, one line each with its verdict, with links to them, and a last item of another kind."""
-    lines = "".join('<li class="of-%d"><a href="#finding-%d" title="%s">%s</a>%s</li>\n' % (
-        finding.number, finding.number, escaped(finding.head), escaped(found.title(finding)), found.verdict_of(finding)) for finding in findings)
+    lines = "".join('<li class="of-%d" value="%d"><a href="#finding-%d" title="%s">%s</a>%s</li>\n' % (
+        *(finding.number,) * 3, escaped(finding.head), escaped(found.title(finding)), found.verdict_of(finding)) for finding in findings)
     return '<nav aria-label="%s">\n<ol class="list" style="--digits: %d">\n%s</ol>\n</nav>\n' % (
-        label, len(str(len(findings))), lines + last)
+        label, max(len(str(finding.number)) for finding in findings), lines + last)
 
 
 def section(name: str, title: str, said: str) -> str:
@@ -146,7 +146,7 @@ def needs_html(found: Found) -> str:
 def groups_html(found: Found) -> Callable[[Finding], str]:
     """For a finding of a group, what the others have in common with it."""
     said = {}
-    for group in groups_of(found.shown):
+    for group in [] if found.has_causes else groups_of(found.shown):
         links = ", ".join('<a href="#finding-%d">%d</a>' % (finding.number, finding.number) for finding in group.findings)
         for finding in group.findings if group.shared else ():
             said[finding.number] = '<p class="soft">Findings that have the order <code>%s</code>: %s</p>\n' % (escaped(group.shared), links)
@@ -156,7 +156,7 @@ def groups_html(found: Found) -> Callable[[Finding], str]:
 def page(found: Found) -> str:
     """The whole page."""
     in_picture = [finding for finding in found.shown if not finding.handler]
-    drawn, reason = ("", found.why_undrawn) if found.why_undrawn else picture_of(in_picture, found.class_files())
+    drawn, reason = ("", found.why_undrawn) if found.why_undrawn else picture_of(in_picture, found.class_files(), not found.has_causes)
     of_group = groups_html(found)
     return """<!DOCTYPE html>
 <html lang="en">

@@ -9,7 +9,7 @@ from ..base.tools import PATIENCE_WITH_DOT, other_answer
 from ..base.words import bytes_of, escaped
 from ..program.checker import text_answer
 from ..program.findings import Finding
-from ..program.graph import EDGE, keys_of_edge
+from ..program.graph import EDGE, NODE, key_in, keys_of_edge
 
 
 def marked_graph(graph: str, findings: list[Finding]) -> tuple[str, dict[str, list[int]]]:
@@ -28,6 +28,19 @@ def marked_graph(graph: str, findings: list[Finding]) -> tuple[str, dict[str, li
             line = marked_edge(line, found, name)
         lines.append(line)
     return "\n".join(lines), numbers
+
+
+def part_of_graph(graph: str, findings: list[Finding]) -> str:
+    """The edges of a graph that belong to findings, with their nodes."""
+    edges = {edge for finding in findings for edge in finding.edges()}
+    keys = {key for start, end, _ in edges for key in (start, end)}
+
+    def is_of_them(line: str) -> bool:
+        edge, node = EDGE.match(line), NODE.match(line)
+        if edge:
+            return (*keys_of_edge(edge), edge.group(3)) in edges
+        return not node or key_in(node.group(1)) in keys
+    return "\n".join(filter(is_of_them, graph.split("\n")))
 
 
 def marked_edge(line: str, found: re.Match, name: str) -> str:
@@ -61,13 +74,14 @@ def svg_text(element: xml.etree.ElementTree.Element, numbers: dict[str, list[int
     return "<%s%s>%s</%s>" % (name, kept, inside, name)
 
 
-def picture_of(findings: list[Finding], files: list[str]) -> tuple[str, str]:
-    """The picture as SVG, or empty and why there is none."""
+def picture_of(findings: list[Finding], files: list[str], are_all: bool = True) -> tuple[str, str]:
+    """The picture as SVG, or empty and why there is none: of all findings, or if there are more of these ones."""
     if not findings:
         return "", ""
     if not shutil.which("dot"):
         return "", "The picture needs Graphviz, whose program dot isn’t on this machine."
-    graph, numbers = marked_graph(text_answer(["graph", "--findings", "--many", "--"] + files), findings)
+    graph = text_answer(["graph", "--findings", "--many", "--"] + files)
+    graph, numbers = marked_graph(graph if are_all else part_of_graph(graph, findings), findings)
     drawn = other_answer(["dot", "-Tsvg", "-Nfontname=Courier", "-Efontname=Courier"], bytes_of(graph), PATIENCE_WITH_DOT)
     try:
         root = xml.etree.ElementTree.fromstring(drawn) if drawn else None

@@ -190,7 +190,7 @@ def invocation_of(found: Found) -> dict:
     warnings = ["Not all was checked. Left out: %s." % found.left_out] if found.left_out else []
     if found.waiting:
         warnings.append("%s %s." % (HANG, "; ".join(found.waiting)))
-    notes = [as_sentence(line) for line in found.signals.lines()] if found.signals else []
+    notes = [as_sentence(line) for line in (found.signals.lines() if found.signals else []) + ([found.untold] if found.untold else [])]
     if warnings or notes:
         invocation["toolExecutionNotifications"] = [{"level": level, "message": {"text": sarif_text(text)}} for level, texts in (
             ("warning", warnings), ("note", notes)) for text in texts]
@@ -204,7 +204,7 @@ def sarif(found: Found) -> str:
     here = "file://" + quote(os.getcwdb().rstrip(b"/") + b"/", safe="/")
     run = {"tool": {"driver": driver}, "invocations": [invocation_of(found)], "columnKind": "utf16CodeUnits",
            "originalUriBaseIds": {"%SRCROOT%": {"uri": here}}}
-    results = [finding_result(finding, found) for finding in found.new + found.known]
+    results = [finding_result(finding, found) for finding in [*filter(found.is_told, found.new), *found.known]]
     results += [blocked_result(thread, found) for thread in found.blocked + found.breaches]
     return '{"$schema": "%s", "version": "2.1.0", "runs": [\n%s, "results": [\n%s\n]}\n]}\n' % (
         SCHEMA, json.dumps(run)[:-1], ",\n".join(map(json.dumps, results)))

@@ -9,13 +9,15 @@ from ..ask.verdict import Recorded
 from ..base.words import counted, name_in
 from ..binaries.symbols import place_words
 from ..places.sources import Sources
-from ..program.findings import Finding
+from ..program.findings import Cause, Finding
+from .cause_words import cause_words, doing_words, is_told
 from .explanation import Annotator, block_of
-from .groups import MOST_OTHERS, Group, groups_told
-from .sentences import VERDICT_INDENT, Names, lines_of, order_words, title
+from .groups import MOST_BESIDE, MOST_GROUPS, MOST_OTHERS, Group, groups_by_cause, groups_told
+from .sentences import ROW_INDENT, VERDICT_INDENT, Names, lines_of, order_words, title
 from .terminal import Writer, is_coloured, text_stream
 from .verdict_words import notes_of, said_of, verdict_of
 
+NOT_SHOWN = "%s shown here; `lockdep confirm --all` shows each finding of a kernel, and its JSON has all"
 
 
 class Text:
@@ -51,8 +53,12 @@ class Text:
     def group(self, group: Group, most: int | None = None) -> int:
         """The first finding of a group, and the others, at most so many, by one line each. Returns how many findings are left."""
         first, others, left = group.findings[0], group.findings[1:], 0
+        if group.cause and is_told(group.cause):
+            self.cause(group.cause)
         self.finding(first)
-        if others:
+        if others and group.cause:
+            self.writer.line("  %s through it:" % counted(len(others), "more finding goes", "more findings go"))
+        elif others:
             shared = "this order, %s" % order_words(group.order, self.names) if group.order and not self.is_verbose else group.shared
             self.writer.line("  %s %s:" % (counted(len(others), "more finding has", "more findings have"), shared))
         if most is not None and len(others) > most:
@@ -64,18 +70,23 @@ class Text:
             self.writer.line("    and %s" % counted(left, "more", "more"))
         return left
 
+    def cause(self, cause: Cause) -> None:
+        """What findings of a kernel go through."""
+        self.writer.line("")
+        self.writer.line(cause_words(cause, self.names))
+        self.writer.line(ROW_INDENT + doing_words(cause, self.sources, self.names))
+
     def head_of(self, finding: Finding) -> tuple[str, str]:
         """A finding and its verdict, to be said in one line."""
         if self.is_verbose:
             return finding.head, verdict_of(finding, self.recorded)
-        return "%d. %s" % (finding.number, title(finding, self.names)), finding.verdict.words if finding.verdict else ""
+        is_judged = finding.verdict and not self.recorded.is_kernels()
+        return "%d. %s" % (finding.number, title(finding, self.names)), finding.verdict.words if is_judged else ""
 
-    def groups(self, groups: list[Group], most: int | None = None) -> int:
-        """Writes the groups, at most so many. Returns how many findings are left."""
+    def groups(self, groups: list[Group], most: int | None = None, most_others: int | None = None) -> int:
+        """Writes the groups, at most so many, and with so many other findings. Returns how many findings are left."""
         shown = groups if most is None else groups[:most]
-        for group in shown:
-            self.group(group)
-        return sum(len(group.findings) for group in groups[len(shown):])
+        return sum(self.group(group, most_others) for group in shown) + sum(len(group.findings) for group in groups[len(shown):])
 
 
 def write_gathered(findings: list[Finding], sources: Sources, recorded: Recorded) -> int:
@@ -84,24 +95,27 @@ def write_gathered(findings: list[Finding], sources: Sources, recorded: Recorded
     writer = Writer(stream, has_colours=is_coloured(stream, ""))
     writer.line("findings %d" % sum(not finding.is_note for finding in findings))
     text, groups = Text(writer, sources, recorded, findings, is_verbose=True), groups_told(findings)
-    left = len(findings) - sum(len(group.findings) for group in groups) + sum(text.group(group, MOST_OTHERS) for group in groups)
+    left = len(findings) - sum(len(group.findings) for group in groups) + text.groups(groups, most_others=MOST_OTHERS)
     stream.flush()
     return left
 
 
 def write_blocks(findings: list[Finding], breaches: list[Breach], sources: Sources, recorded: Recorded, is_verbose: bool, color: str = "", head: str = "",
-                 below: Sequence[str] = ()) -> None:
-    """Writes a first line, which is how much was found if it isn't given, each finding as a block, and what follows. Under a first line of their own, findings
-    that are told with all that is known begin with what is wrong in plain words."""
+                 below: Sequence[str] = (), is_all: bool = True) -> None:
+    """Writes a first line, which is how much was found if it isn't given, each finding as a block, or by their causes the first ones, and what follows. Under a
+    first line of their own, findings that are told with all that is known begin with what is wrong in plain words."""
     stream = text_stream(sys.stdout.fileno())
     writer = Writer(stream, has_colours=is_coloured(stream, color))
     number = sum(not finding.is_note for finding in findings) + len(breaches)
     writer.line(head or ("findings %d" % number if is_verbose else counted(number, "finding")))
     text = Text(writer, sources, recorded, findings, is_verbose)
     plain = Text(writer, sources, recorded, findings, False)
-    for finding in findings:
+    for finding in findings if is_all else ():
         for form in (plain, text) if head and is_verbose else (text,):
             form.finding(finding)
+    left = 0 if is_all else text.groups(groups_by_cause(findings), MOST_GROUPS, MOST_BESIDE)
+    if left:
+        below = ["", NOT_SHOWN % counted(left, "finding isn't", "findings aren't"), *below]
     for breach in breaches:
         text.breach(breach)
     for line in below:
