@@ -12,7 +12,7 @@ from dataclasses import dataclass, field
 from typing import Iterator
 
 from ..base.words import text_of, unquoted
-from ..program.checker import ask, program_path
+from ..program.checker import REFUSED, ask, program_path
 from ..program.condensed import facts_in
 from ..program.findings import Cause, Event, Fact, Finding, Use
 
@@ -124,24 +124,30 @@ def acquisition_of(use: Use) -> Event | None:
 # ---- In how many traces something is.
 
 
+@functools.lru_cache(maxsize=1 << 14)
 def key_of(named: bytes) -> str:
     """A key as findings have it, by its name and subclass in a trace."""
     name, _, sub_class = named.rpartition(b",")
     return "%s/%s" % (unquoted(text_of(name)), text_of(sub_class))
 
 
-def facts_of(program: str, trace: str) -> set[Fact]:
-    """What a trace says. One that can't be condensed says nothing: only what comes first among the findings hangs on that."""
+def facts_of(program: str, trace: str) -> set[Fact] | None:
+    """What a trace says, unless it can't be condensed."""
     answer = ask(["condense", "--many", "--workers", "1", "--", trace], with_errors=True, path=program)
+    if answer.status >= REFUSED:
+        return None
     orders, marks = facts_in(answer.output)
-    return {(key_of(held), text_of(kind).strip(), key_of(taken)) for held, kind, taken in orders} | {(text_of(mark), key_of(key)) for mark, key in marks}
+    return {(key_of(held), kind.decode().strip(), key_of(taken)) for held, kind, taken in orders} | {(mark.decode(), key_of(key)) for mark, key in marks}
+
+
+def facts_in_turn(program: str, traces: list[str]) -> Iterator[set[Fact] | None]:
+    """What each trace says, or none for one that can't be condensed."""
+    with ThreadPoolExecutor(WORKERS) as workers:
+        yield from workers.map(functools.partial(facts_of, program), traces)
 
 
 def traces_with(facts: set[Fact], traces: list[str]) -> dict[Fact, int]:
-    """How many traces have each of these: at least the one of which the record is."""
-    program, count = program_path(), dict.fromkeys(facts, 0)
-    with ThreadPoolExecutor(WORKERS) as workers:
-        for said in workers.map(functools.partial(facts_of, program), traces):
-            for fact in facts & said:
-                count[fact] += 1
-    return {fact: max(1, number) for fact, number in count.items()}
+    """How many traces have each of these: at least the one of which the record is. One that can't be condensed counts for none: only what comes first among
+    the findings hangs on that."""
+    count = Counter(fact for said in facts_in_turn(program_path(), traces) for fact in facts & (said or set()))
+    return {fact: max(1, count[fact]) for fact in facts}

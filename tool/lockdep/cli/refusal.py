@@ -16,6 +16,7 @@ OF_FILE = re.compile(r"lockdep: (.*): P2 CannotOpen", re.S)
 OF_ELSE = re.compile(r"lockdep: ([A-Z]\d) [A-Z].*", re.S)
 LOOKED_AT = re.compile(r"T[1-5]|S\d")  # the codes that a record says more of
 PATIENCE = 5  # for how many seconds of processor time a trace may be looked at
+PATIENCE_WITH_ALL = 30  # the same of all traces
 PIECE = 1 << 18  # bytes that are read at once, and the longest line that is looked at
 MOST_PIECES = 320  # a million records whose names are as long as they may be
 MOST_LINES = 1_000_000  # of a record: what a double quote that is never closed may take in
@@ -25,7 +26,7 @@ OTHER_VERBS = {"acquire": "acq", "lock": "acq", "take": "acq", "release": "rel",
 
 TYPE_CHECKING = False  # for a tool that checks types, it is true
 if TYPE_CHECKING:
-    from typing import Any, BinaryIO
+    from typing import Any, BinaryIO, Callable
 
 
 def bytes_of(text: str) -> bytes:
@@ -70,21 +71,28 @@ def content(file: str, words: list[str], number: int) -> tuple[bytes, bool] | No
 
 def look_at_trace(file: str, words: list[str], code: str, number: int) -> dict[str, Any]:
     """What the trace's own lines say, unless that takes too long."""
-    def give_up(*_: object) -> None:
-        raise TimeoutError
-    before = signal.signal(signal.SIGPROF, give_up)
-    signal.setitimer(signal.ITIMER_PROF, PATIENCE)
-    try:
+    def look() -> dict[str, Any]:
         read = content(file, words, number)
-        facts = facts_of(*read, code, number) if read else {}
-    except (TimeoutError, MemoryError):
-        facts = {}
-    finally:
-        signal.setitimer(signal.ITIMER_PROF, 0)
-        signal.signal(signal.SIGPROF, before)
+        return facts_of(*read, code, number) if read else {}
+    facts = in_time(look, PATIENCE)
     if "unknown" in facts:
         note_verb(facts)
     return facts
+
+
+def in_time(look: Callable[[], dict[str, Any]], seconds: int) -> dict[str, Any]:
+    """What is found, or nothing if that takes more seconds of processor time."""
+    def give_up(*_: object) -> None:
+        raise TimeoutError
+    before = signal.signal(signal.SIGPROF, give_up)
+    signal.setitimer(signal.ITIMER_PROF, seconds)
+    try:
+        return look()
+    except (TimeoutError, MemoryError):
+        return {}
+    finally:
+        signal.setitimer(signal.ITIMER_PROF, 0)
+        signal.signal(signal.SIGPROF, before)
 
 
 def note_verb(facts: dict[str, Any]) -> None:
@@ -193,6 +201,30 @@ def is_socket(path: bytes) -> bool:
         return False
 
 
+# ---- Too many keys that lead to one another.
+
+def of_tangle(program: str, words: list[str]) -> dict[str, Any]:
+    """What was counted, and what to look at first, if the traces can be read again, and that doesn't take too long."""
+    from ..ask.verdict import type_of_key
+    from ..gather.places import MOST_TANGLED
+    from .refused_tangle import facts_of_tangle
+    is_of_locks, files = asks_of_locks(words), files_in(words)
+    facts: dict[str, Any] = {}
+    if files and all(os.path.isfile(bytes_of(file)) for file in files):
+        names = [os.fsdecode(bytes_of(file)) for file in files]
+        facts = in_time(lambda: facts_of_tangle(program, names, type_of_key if is_of_locks else str, MOST_TANGLED), PATIENCE_WITH_ALL)
+    if facts:
+        return dict(facts, case="counted", what="types of locks" if is_of_locks else "lock classes", file=visible(os.path.basename(facts["file"])))
+    return {"case": "types" if is_of_locks else None}
+
+
+def files_in(words: list[str]) -> list[str]:
+    """The files that a command of the program names."""
+    options = words[1:words.index("--")] if "--" in words else words[1:]
+    files = [word for word, before in zip(options, ["", *options]) if not word.startswith("-") and before != "--workers"]
+    return files + (words[words.index("--") + 1:] if "--" in words else [])
+
+
 # ---- All refusals.
 
 def advice(program: str, line: str, words: list[str]) -> str:
@@ -209,8 +241,9 @@ def advice(program: str, line: str, words: list[str]) -> str:
     if not other:
         return ""
     code = other.group(1)
-    is_pipe = code == "P3" and os.environ.get("LOCKDEP_OUTPUT") == "pipe"
-    return words_for(code, {"case": "pipe" if is_pipe else "types" if code == "M1" and asks_of_locks(words) else None})
+    if code == "M1":
+        return words_for(code, of_tangle(program, words))
+    return words_for(code, {"case": "pipe" if code == "P3" and os.environ.get("LOCKDEP_OUTPUT") == "pipe" else None})
 
 
 def said(program: str, line: bytes, words: list[bytes]) -> bytes:
