@@ -162,6 +162,7 @@ void load_symbols(void);
 const struct symbol *symbol_at(uint64_t address, uint64_t number);
 const struct symbol *function_at(uint64_t place, uint64_t number);
 int load_at(uint64_t address, uint64_t number);
+int loads_of(const char *name);
 
 /* ---- classes.c */
 

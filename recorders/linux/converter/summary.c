@@ -61,9 +61,10 @@ void tell_summary(FILE *file) {
     tell_joined(file);
 }
 
+static bool is_lockdep_off(void) { return control.is_lockdep_off || (counts.off && !control.is_of_text); }
+
 /* What a recording lacks. */
 void note_incomplete(void) {
-    bool is_off = control.is_lockdep_off || (counts.off && !control.is_of_text);
     if (counts.lost || counts.gaps)
         incomplete("lost-records", "%lu records were lost in %lu gaps: the traces may have false orders", counts.lost, counts.gaps);
     if (counts.cut_files)
@@ -73,7 +74,7 @@ void note_incomplete(void) {
                    "files of the recording are damaged: by their numbers %lu records are missing and %lu are there twice or misplaced; %lu have "
                    "no known type",
                    counts.absent, counts.misplaced, counts.unknown_types);
-    if (is_off)
+    if (is_lockdep_off())
         incomplete("lockdep-off", "lockdep turned itself off (dmesg says why): the %lu records since then couldn't be compared with its account",
                    counts.off);
     if (counts.after_lockdep)
@@ -117,13 +118,42 @@ int tell_faults(void) {
     return !counts.traces ? 2 : reason_count > 0;
 }
 
-/* What tells the driver that this is a kernel's recording, and programs why it is incomplete. */
+/* Whether lockdep tells classes apart that have one name in the traces, or forgot what it knew of a class while the recording went on. */
+static bool is_several(const struct class *class) { return !class->is_static && names[class->name].other_keys > 1; }
+static bool is_forgotten(const struct class *class) { return class->module && class->taken_at && loads_of(class->module) > 1; }
+
+/* The names of such classes, each once. They are visible ASCII. */
+static void write_names(FILE *file, const char *member, bool (*is_such)(const struct class *class)) {
+    bool *is_written = checked(calloc(written_count + 1, sizeof *is_written));
+    const char *between = "";
+    fprintf(file, ",\"%s\":[", member);
+    for (size_t number = 0; number < class_count; number++) {
+        const struct class *class = &classes[number];
+        if (!is_such(class) || is_written[class->written])
+            continue;
+        is_written[class->written] = true;
+        fprintf(file, "%s\"", between);
+        for (const char *byte = writtens[class->written].text; *byte; byte++)
+            fprintf(file, "%s%c", *byte == '"' || *byte == '\\' ? "\\" : "", *byte);
+        fputc('"', file);
+        between = ",";
+    }
+    fputc(']', file);
+    free(is_written);
+}
+
+/* What tells the driver that this is a kernel's recording, programs why it is incomplete, and both what lockdep itself could say. */
 void write_json(void) {
     FILE *file = open_file("summary.json");
     fprintf(file,
             "{\"recording\":1,\"recorder\":\"linux\",\"counts\":[\n"
-            "{\"code\":\"records\",\"count\":%lu},\n{\"code\":\"events\",\"count\":%lu}\n],\"unseen\":[",
+            "{\"code\":\"records\",\"count\":%lu},\n{\"code\":\"events\",\"count\":%lu}\n],\n",
             counts.records, counts.events);
+    bool is_on = control.is_there && !control.is_of_text && !is_lockdep_off() && !counts.after_lockdep;
+    fprintf(file, "\"lockdep\":{\"was\":\"%s\"", is_on ? "on" : is_lockdep_off() ? "off" : "unknown");
+    write_names(file, "several", is_several);
+    write_names(file, "forgotten", is_forgotten);
+    fputs("},\n\"unseen\":[", file);
     for (int number = 0; number < reason_count; number++)
         fprintf(file, "%s\"%s\"", number ? "," : "", reasons[number].code);
     fputs("]}\n", file);

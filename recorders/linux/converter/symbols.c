@@ -36,6 +36,14 @@ static int load_of(const char *name) {
     return NO_LOAD;
 }
 
+/* How often a module was loaded, as far as the recording goes. */
+int loads_of(const char *name) {
+    int count = 0;
+    for (size_t number = 0; number < load_count; number++)
+        count += !strcmp(loads[number].name, name);
+    return count;
+}
+
 static int begin_load(const char *name, uint64_t from) {
     struct load load = {.name = name, .from = from, .until = UINT64_MAX};
     PUSH(loads, load_count, load);

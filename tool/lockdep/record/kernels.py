@@ -1,14 +1,17 @@
-"""A recording of a Linux kernel: how it is known, its traces, and why it is incomplete."""
+"""A recording of a Linux kernel: how it is known, its traces, why it is incomplete, and what the kernel's own lockdep could say of it."""
 from __future__ import annotations
 
 import os
 
 from ..base.files import text_in
 from .folder import TASKS
-from .summary import read, recorder_of
+from .summary import DAMAGE, json_in, read, recorder_of
 
 RECORDER = "linux"
 INCOMPLETE = "incomplete"  # begins a line of SUMMARY: why a clean report would say nothing
+FALSE_ORDERS = {"lost-records", "mismatches", "damaged", "modules-lost", "untold-task"}  # reasons for which orders may be false
+OTHERWISE = (("several", "to it %s is several classes"), ("forgotten", "it forgets %s when its module is unloaded"))
+WAS = {"off": "", "on": "it was on, and said nothing"}  # of lockdep, and why it says nothing then
 
 
 def is_of_kernel(folder: str) -> bool:
@@ -30,3 +33,20 @@ def left_out(traces: list[str]) -> str:
     """Why the recordings of these traces are incomplete, if they are of kernels; each reason once."""
     folders = dict.fromkeys(os.path.dirname(trace) for trace in traces)
     return "; ".join(dict.fromkeys(why for folder in folders if is_of_kernel(folder) for why in why_incomplete(folder)))
+
+
+def why_unsaid(folders: list[str], names: list[str]) -> str:
+    """Why the kernel's own lockdep wouldn't say what was found in these recordings of classes of these names, or needn't; empty if it would."""
+    if len(folders) != 1:
+        return "it sees one boot at a time"
+    try:
+        said = json_in(text_in(os.path.join(folders[0], "summary.json")))
+        own, reasons = said.get("lockdep", {}), said["unseen"]
+        otherwise = [words % name for member, words in OTHERWISE for name in names if name in own.get(member, ())]
+    except DAMAGE:
+        own, reasons, otherwise = {}, [], []
+    if "text" in reasons:
+        return "the text doesn't tell its classes"
+    if otherwise or FALSE_ORDERS.intersection(reasons):
+        return otherwise[0] if otherwise else "there may be false orders in the recording"
+    return WAS.get(own.get("was"), "it isn't known whether it was on")
