@@ -28,7 +28,7 @@
 #define LEFT_OUT (-1)      /* the key of a lock that isn't written */
 
 /* Why a clean report of these traces wouldn't say that all was looked at. The code is for programs, in summary.json. */
-#define MAX_REASONS 16
+#define MAX_REASONS 32
 
 struct reason {
     const char *code;
@@ -116,8 +116,11 @@ struct landmark {
 struct control {
     bool is_there;
     bool is_of_text; /* it was made of text, in which more is missing */
+    bool is_without_softirqs, is_without_interrupts; /* the text doesn't say whether softirqs are off, or what is an interrupt */
     bool is_lockdep_off; /* lockdep had turned itself off at the end */
     size_t symbols, modules; /* bytes of these files, or NOT_SAID */
+    unsigned long lost, nested; /* records for which there was no room, and events that came while one was written */
+    char missing[160];          /* tracepoints that this kernel doesn't have */
     struct landmark *landmarks;
     size_t landmark_count;
 };

@@ -136,9 +136,11 @@ static bool is_cpu_named[MAX_CPUS];
 /* Compares one line of `control` with the file of its CPU. */
 static void compare_cpu(const char *line) {
     unsigned number;
-    unsigned long written;
-    if (sscanf(line, "cpu%u slots written %lu", &number, &written) != 2 || number >= MAX_CPUS)
+    unsigned long written, lost = 0, nested = 0;
+    if (sscanf(line, "cpu%u slots written %lu lost %lu nested %lu", &number, &written, &lost, &nested) < 2 || number >= MAX_CPUS)
         return;
+    control.lost += lost;
+    control.nested += nested;
     control.is_there = is_cpu_named[number] = true;
     if (cpus[number].slot_count != written)
         incomplete("records-missing", "the module wrote %lu slots on CPU %u, and %zu are there: was the disk full?", written, number,
@@ -155,10 +157,21 @@ static void note_landmark(char *line) {
     PUSH(control.landmarks, control.landmark_count, landmark);
 }
 
+/* `tracepoint NAME found` or `missing`. */
+static void note_tracepoint(const char *line) {
+    size_t length = strlen(control.missing);
+    char name[64], found[16];
+    if (sscanf(line, "tracepoint %63s %15s", name, found) == 2 && !strcmp(found, "missing"))
+        snprintf(control.missing + length, sizeof control.missing - length, " %s", name);
+}
+
 static void note_line(char *line) {
     unsigned long bytes, lost;
+    note_tracepoint(line);
     compare_cpu(line);
     control.is_of_text = control.is_of_text || !strcmp(line, "made of text");
+    control.is_without_softirqs = control.is_without_softirqs || !strcmp(line, "text without softirqs");
+    control.is_without_interrupts = control.is_without_interrupts || !strcmp(line, "text without interrupts");
     control.is_lockdep_off = control.is_lockdep_off || !strcmp(line, "lockdep off");
     sscanf(line, "text left out %lu", &counts.unproven);
     if (sscanf(line, "symbols written %lu", &bytes) == 1)

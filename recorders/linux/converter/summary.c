@@ -67,6 +67,13 @@ static bool is_lockdep_off(void) { return control.is_lockdep_off || (counts.off 
 void note_incomplete(void) {
     if (counts.lost || counts.gaps)
         incomplete("lost-records", "%lu records were lost in %lu gaps: the traces may have false orders", counts.lost, counts.gaps);
+    if (control.lost != counts.lost && control.is_there && !control.is_of_text)
+        incomplete("other-losses", "the module lost %lu records, and its files tell of %lu: they are damaged, and the traces may have false orders",
+                   control.lost, counts.lost);
+    if (control.nested)
+        incomplete("nested", "%lu events, as of NMIs, weren't recorded, since they came while another one was written", control.nested);
+    if (*control.missing)
+        incomplete("tracepoints-missing", "this kernel lacks tracepoints, so less is seen of its interrupts:%s", control.missing);
     if (counts.cut_files)
         incomplete("cut-file", "a file of the recording ends within a record");
     if (counts.absent || counts.misplaced || counts.unknown_types)
@@ -99,6 +106,10 @@ void note_left_out(void) {
                    options.most_traces);
     if (control.is_of_text)
         incomplete("text", "text doesn't tell subclasses, recursive readers, nest_lock or two classes of one name: there may be false cycles");
+    if (control.is_without_softirqs)
+        incomplete("text-softirqs", "this text doesn't tell whether softirqs are off: doubles and inversions by softirq may be false");
+    if (control.is_without_interrupts)
+        incomplete("text-interrupts", "this text doesn't tell what is an interrupt: only cycles are found, and those of an interrupt's locks may be false");
 }
 
 /* The reasons in SUMMARY, where `lockdep confirm` reads them. */

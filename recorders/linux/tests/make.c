@@ -25,7 +25,7 @@
 static FILE *files[CPUS];
 static lr_u32 pids[CPUS];
 static lr_u64 number;
-static unsigned long slots[CPUS];
+static unsigned long slots[CPUS], lost[CPUS];
 
 static lr_u8 state_of(const char *letters) {
     static const char all[] = "hsHSLN.F";
@@ -59,6 +59,8 @@ static void write_record(int cpu, struct lr_record record) {
     record.pid = pids[cpu];
     fwrite(&record, sizeof record, 1, files[cpu]);
     slots[cpu]++;
+    if (record.type == LR_LOST)
+        lost[cpu] += record.instance;
 }
 
 static void write_name(int cpu, lr_u64 key, const char *name) {
@@ -75,7 +77,7 @@ static int write_control(const char *folder) {
     snprintf(path, sizeof path, "%s/control", folder);
     FILE *file = fopen(path, "w");
     for (int cpu = 0; file && cpu < CPUS; cpu++)
-        fprintf(file, "cpu%d slots written %lu lost 0 nested 0\n", cpu, slots[cpu]);
+        fprintf(file, "cpu%d slots written %lu lost %lu nested 0\n", cpu, slots[cpu], lost[cpu]);
     return file && !fclose(file);
 }
 

@@ -9,7 +9,7 @@ from .summary import DAMAGE, json_in, read, recorder_of
 
 RECORDER = "linux"
 INCOMPLETE = "incomplete"  # begins a line of SUMMARY: why a clean report would say nothing
-FALSE_ORDERS = {"lost-records", "mismatches", "damaged", "modules-lost", "untold-task"}  # reasons for which orders may be false
+FALSE_ORDERS = {"lost-records", "other-losses", "nested", "mismatches", "damaged", "modules-lost", "untold-task"}  # reasons for which orders may be false
 OTHERWISE = (("several", "to it %s is several classes"), ("forgotten", "it forgets %s when its module is unloaded"))
 WAS = {"off": "", "on": "it was on, and said nothing"}  # of lockdep, and why it says nothing then
 
@@ -35,8 +35,9 @@ def left_out(traces: list[str]) -> str:
     return "; ".join(dict.fromkeys(why for folder in folders if is_of_kernel(folder) for why in why_incomplete(folder)))
 
 
-def why_unsaid(folders: list[str], names: list[str]) -> str:
-    """Why the kernel's own lockdep wouldn't say what was found in these recordings of classes of these names, or needn't; empty if it would."""
+def why_unsaid(folders: list[str], names: list[str], irq: str) -> str:
+    """Why the kernel's own lockdep wouldn't say what was found in these recordings of classes of these names, and perhaps of an interrupt, or needn't; empty
+    if it would."""
     if len(folders) != 1:
         return "it sees one boot at a time"
     try:
@@ -46,7 +47,8 @@ def why_unsaid(folders: list[str], names: list[str]) -> str:
     except DAMAGE:
         own, reasons, otherwise = {}, [], []
     if "text" in reasons:
-        return "the text doesn't tell its classes"
+        what = "whether softirqs are off" if irq == "softirq" and "text-softirqs" in reasons else "its classes"
+        return "the text doesn't tell %s" % (what + " and what is an interrupt" if "text-interrupts" in reasons else what)
     if otherwise or FALSE_ORDERS.intersection(reasons):
         return otherwise[0] if otherwise else "there may be false orders in the recording"
     return WAS.get(own.get("was"), "it isn't known whether it was on")

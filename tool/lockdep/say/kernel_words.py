@@ -21,7 +21,7 @@ def words_of_kernel(finding: Finding) -> str:
     """What the kernel's lockdep calls a finding, so that it can be searched for. It says so itself only of what it saw in one boot, by classes that it has,
     and if it wasn't on: else it would have said so, and turned itself off."""
     folders = dict.fromkeys(os.path.dirname(event.file) for event in finding.own_events())
-    why = why_unsaid(list(folders), [name_in(key) for key in own_keys_of(finding)])
+    why = why_unsaid(list(folders), [name_in(key) for key in own_keys_of(finding)], finding.irq)
     return CALLS % (kind_words(finding), why) if why else SAYS % kind_words(finding)
 
 
