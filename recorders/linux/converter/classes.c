@@ -2,10 +2,15 @@
 #define _GNU_SOURCE
 #include "converter.h"
 
-/* A key's current name: keys in memory are reused by other classes. */
+/* A key's current name: keys in memory are reused by other classes. Or the class of an instance, when it was taken last. */
 struct key_use {
     uint64_t key;
     size_t class;
+};
+
+struct table {
+    struct key_use *uses; /* by hash */
+    size_t room, count;
 };
 
 struct name *names;
@@ -14,8 +19,7 @@ struct class *classes;
 size_t class_count;
 struct written *writtens;
 size_t written_count;
-static struct key_use *key_uses; /* by hash */
-static size_t key_use_room, key_use_count;
+static struct table keys, instances;
 
 /* A key as all CPUs have it: the copies of a static per-CPU lock are one class, and become its symbol's address. */
 static uint64_t shared_key(uint64_t key, bool *is_percpu) {
@@ -30,33 +34,32 @@ static uint64_t shared_key(uint64_t key, bool *is_percpu) {
     return key;
 }
 
-static size_t slot_of_key(uint64_t key) {
-    size_t slot = mix(0, key) & (key_use_room - 1);
-    while (key_uses[slot].key && key_uses[slot].key != key)
-        slot = (slot + 1) & (key_use_room - 1);
+static size_t slot_of_key(const struct table *table, uint64_t key) {
+    size_t slot = mix(0, key) & (table->room - 1);
+    while (table->uses[slot].key && table->uses[slot].key != key)
+        slot = (slot + 1) & (table->room - 1);
     return slot;
 }
 
-static void grow_key_uses(void) {
-    struct key_use *old = key_uses;
-    size_t old_room = key_use_room;
-    key_use_room = old_room ? 2 * old_room : 1024;
-    key_uses = checked(calloc(key_use_room, sizeof *key_uses));
-    for (size_t slot = 0; slot < old_room; slot++)
-        if (old[slot].key)
-            key_uses[slot_of_key(old[slot].key)] = old[slot];
-    free(old);
+static void grow_table(struct table *table) {
+    struct table old = *table;
+    table->room = old.room ? 2 * old.room : 1024;
+    table->uses = checked(calloc(table->room, sizeof *table->uses));
+    for (size_t slot = 0; slot < old.room; slot++)
+        if (old.uses[slot].key)
+            table->uses[slot_of_key(table, old.uses[slot].key)] = old.uses[slot];
+    free(old.uses);
 }
 
-/* The entry with the name of this key (as it was recorded). */
-static struct key_use *use_of_key(uint64_t key) {
-    if (2 * key_use_count >= key_use_room)
-        grow_key_uses();
-    struct key_use *use = &key_uses[slot_of_key(key)];
+/* The entry of a key (as it was recorded), or of an instance. */
+static struct key_use *use_of_key(struct table *table, uint64_t key) {
+    if (2 * table->count >= table->room)
+        grow_table(table);
+    struct key_use *use = &table->uses[slot_of_key(table, key)];
     if (!use->key) {
         use->key = key;
         use->class = SIZE_MAX;
-        key_use_count++;
+        table->count++;
     }
     return use;
 }
@@ -120,16 +123,64 @@ void learn_name(const struct lr_record *record) {
     bytes[LR_NAME_ROOM] = 0;
     const char *text = without_folders(bytes);
     uint64_t key = record->key - (record->flags & LR_SUBCLASS);
-    struct key_use *use = use_of_key(key);
+    struct key_use *use = use_of_key(&keys, key);
     if (use->class == SIZE_MAX || strcmp(names[classes[use->class].name].text, text))
         use->class = class_of(key, text, record->number);
 }
 
 size_t class_of_record(const struct lr_record *record) {
-    struct key_use *use = use_of_key(base_key(record));
+    struct key_use *use = use_of_key(&keys, base_key(record));
     if (use->class == SIZE_MAX)
         use->class = class_of(use->key, "unnamed", record->number);
     return use->class;
+}
+
+/* Notes from when to when a class is used, and by whom first. */
+void note_use(const struct lr_record *record) {
+    struct key_use *use = use_of_key(&instances, record->instance);
+    if (is_lock(record))
+        use->class = class_of_record(record);
+    if (use->class == SIZE_MAX)
+        return;
+    struct class *class = &classes[use->class];
+    if (!class->first) {
+        class->first = record->number;
+        class->caller = record->place;
+    }
+    class->last = record->number;
+}
+
+static bool is_in_memory(const struct class *class) { return !class->is_static && class->first; }
+
+static const char *taker_of(const struct class *class) {
+    const struct symbol *taker = function_at(class->caller, class->first);
+    return taker ? taker->name : "";
+}
+
+/* Whether two keys in memory of one name, which the same function takes first, are two classes, as they are to lockdep. They aren't if a module was
+   unloaded after one and before the other: loaded again, it makes another key for what is the same. Keys that may not be in memory are. */
+static bool is_beside(const struct class *one, const struct class *other) {
+    const struct class *earlier = one->first < other->first ? one : other, *later = earlier == one ? other : one;
+    return are_keys_hidden || !is_unload_between(earlier->last, later->first);
+}
+
+/* Gives the keys in memory of one name their turns. One that comes when another one is gone takes its turn. */
+static void tell_turns(void) {
+    for (size_t number = 0; number < class_count; number++) {
+        struct class *class = &classes[number];
+        if (!is_in_memory(class))
+            continue;
+        class->turn = 1;
+        for (size_t other = 0; other < number; other++) {
+            const struct class *earlier = &classes[other];
+            if (earlier->name != class->name || !is_in_memory(earlier))
+                continue;
+            bool is_same_taker = !strcmp(taker_of(earlier), taker_of(class));
+            bool is_taken = is_same_taker && is_beside(earlier, class);
+            class->turn += is_taken && earlier->turn == class->turn;
+            names[class->name].is_apart = names[class->name].is_apart || is_taken || !is_same_taker;
+        }
+    }
 }
 
 /* Whether a name needs more to tell its class from others: several keys have it, or it is that of a per-CPU variable's
@@ -137,7 +188,7 @@ size_t class_of_record(const struct lr_record *record) {
 bool is_ambiguous(const struct class *class) {
     const struct name *name = &names[class->name];
     bool is_several = options.full_names || name->static_keys + name->other_keys > 1;
-    return class->is_percpu || (class->is_static && is_several);
+    return class->is_percpu || (class->is_static ? is_several : name->is_apart);
 }
 
 /* Whether the symbol of a key says nothing. */
@@ -154,11 +205,22 @@ static void tell_module(const struct class *class, char *end, size_t room, bool 
         snprintf(end, room, "@%s%s%s", class->module, is_own ? "" : ":", is_own ? "" : class->symbol->name);
 }
 
+/* Appends who takes a key in memory first, and its turn unless it is the first one. */
+static void tell_taker(const struct class *class, char *end, size_t room) {
+    const char *taker = taker_of(class);
+    char turn[16] = "";
+    if (class->turn > 1)
+        snprintf(turn, sizeof turn, "+%d", class->turn);
+    snprintf(end, room, "%s%s%s%s", *taker || *turn ? "@" : "", *taker ? "by:" : "", taker, turn);
+}
+
 /* Appends the symbol to a name, or the distance from the kernel's start if the symbol says nothing. A lock with the same
    name as its symbol keeps its name. */
 static void tell_apart(const struct class *class, char *text, size_t room) {
     size_t length = strlen(text);
-    if (!class->symbol)
+    if (is_in_memory(class))
+        tell_taker(class, text + length, room - length);
+    if (!class->is_static || !class->symbol)
         return;
     bool is_own = !strcmp(class->symbol->name, text);
     if (class->module)
@@ -194,6 +256,7 @@ static size_t written_of_text(const char *text) {
 }
 
 void name_classes(void) {
+    tell_turns();
     for (size_t number = 0; number < class_count; number++) {
         struct class *class = &classes[number];
         char text[LR_NAME_ROOM + 600];
@@ -202,6 +265,7 @@ void name_classes(void) {
             tell_apart(class, text, sizeof text);
         make_name_valid(text);
         class->written = written_of_text(text);
+        writtens[class->written].other_keys += is_in_memory(class);
         if (class->module && options.only_module && !strcmp(class->module, options.only_module))
             writtens[class->written].is_of_module = true;
     }
@@ -209,6 +273,6 @@ void name_classes(void) {
 
 /* Forgets the current names of keys, so that the records can be gone through again. */
 void forget_names(void) {
-    for (size_t slot = 0; slot < key_use_room; slot++)
-        key_uses[slot].class = SIZE_MAX;
+    for (size_t slot = 0; slot < keys.room; slot++)
+        keys.uses[slot].class = SIZE_MAX;
 }

@@ -160,12 +160,14 @@ struct symbol {
 extern struct symbol *symbols;
 extern struct load *loads;
 extern uint64_t image_start, image_end, percpu_start, percpu_end, no_validate;
+extern bool are_keys_hidden; /* it isn't known of all keys whether they are in the image or a module */
 
 void load_symbols(void);
 const struct symbol *symbol_at(uint64_t address, uint64_t number);
 const struct symbol *function_at(uint64_t place, uint64_t number);
 int load_at(uint64_t address, uint64_t number);
 int loads_of(const char *name);
+bool is_unload_between(uint64_t from, uint64_t until);
 
 /* ---- classes.c */
 
@@ -173,6 +175,7 @@ int loads_of(const char *name);
 struct name {
     char text[LR_NAME_ROOM + 1];
     int static_keys, other_keys;
+    bool is_apart; /* its keys in memory are several classes */
 };
 
 struct class {
@@ -183,12 +186,15 @@ struct class {
     const struct symbol *symbol; /* that contains the key; NULL: none is known */
     size_t written;              /* its name in the traces, see below */
     uint64_t taker, taken_at;    /* who takes it first, and at which record; 0: nobody */
+    uint64_t caller, first, last; /* the same of all records, and its last one, which may be a release */
+    int turn; /* of a key in memory: 1, or more if it is another class than others of its name with the same first taker */
 };
 
 /* A name as the traces have it, and the acquisitions of each of its subclasses. */
 struct written {
     char text[MAX_NAME + 1];
     bool is_of_module; /* of --only-module */
+    int other_keys;    /* in memory, that have it */
     unsigned long uses[SUBCLASSES];
     bool is_chosen[SUBCLASSES];
 };
@@ -203,6 +209,7 @@ extern size_t written_count;
 uint64_t base_key(const struct lr_record *record);
 void learn_name(const struct lr_record *record);
 size_t class_of_record(const struct lr_record *record);
+void note_use(const struct lr_record *record);
 bool is_ambiguous(const struct class *class);
 bool is_nameless(const struct class *class);
 void name_classes(void);

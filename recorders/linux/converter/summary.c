@@ -20,9 +20,9 @@ void tell_takers(FILE *file) {
 
 /* Names that several classes share in the traces. */
 static void tell_joined(FILE *file) {
-    for (size_t number = 0; number < name_count; number++)
-        if (names[number].other_keys > 1)
-            fprintf(file, "one class, though it has %d keys: %s\n", names[number].other_keys, names[number].text);
+    for (size_t number = 0; number < written_count; number++)
+        if (writtens[number].other_keys > 1)
+            fprintf(file, "one class, though it has %d keys: %s\n", writtens[number].other_keys, writtens[number].text);
 }
 
 void tell_summary(FILE *file) {
@@ -130,7 +130,7 @@ int tell_faults(void) {
 }
 
 /* Whether lockdep tells classes apart that have one name in the traces, or forgot what it knew of a class while the recording went on. */
-static bool is_several(const struct class *class) { return !class->is_static && names[class->name].other_keys > 1; }
+static bool is_several(const struct class *class) { return writtens[class->written].other_keys > 1; }
 static bool is_forgotten(const struct class *class) { return class->module && class->taken_at && loads_of(class->module) > 1; }
 
 /* The names of such classes, each once. They are visible ASCII. */

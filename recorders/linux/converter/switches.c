@@ -217,8 +217,8 @@ void learn(void) {
         check_item(&item);
         if (item.record->type == LR_NAME)
             learn_name(item.record);
-        else if (is_lock(item.record))
-            class_of_record(item.record);
+        else if (is_lock(item.record) || item.record->type == LR_RELEASE)
+            note_use(item.record);
     }
     name_classes();
 }

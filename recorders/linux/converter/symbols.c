@@ -6,6 +6,7 @@ struct symbol *symbols;
 static size_t symbol_count;
 struct load *loads;
 static size_t load_count;
+bool are_keys_hidden;
 uint64_t image_start, image_end, percpu_start, percpu_end, no_validate;
 
 static int by_address(const void *a, const void *b) {
@@ -42,6 +43,14 @@ int loads_of(const char *name) {
     for (size_t number = 0; number < load_count; number++)
         count += !strcmp(loads[number].name, name);
     return count;
+}
+
+/* Whether a module was unloaded behind one record, and not behind another. */
+bool is_unload_between(uint64_t from, uint64_t until) {
+    for (size_t number = 0; number < load_count; number++)
+        if (loads[number].until >= from && loads[number].until < until)
+            return true;
+    return false;
 }
 
 static int begin_load(const char *name, uint64_t from) {
@@ -87,12 +96,20 @@ static void add_symbol(char *line) {
     PUSH(symbols, symbol_count, symbol);
 }
 
-static void read_symbols(char *text) {
+/* Reads symbols. False: all of their addresses are 0, as they are for who mayn't see them, and none is kept. */
+static bool read_symbols(char *text) {
+    size_t before = symbol_count;
+    bool is_seen = false;
     for (char *line; (line = strsep(&text, "\n"));)
         if (is_load_line(line))
             note_load(line);
         else
             add_symbol(line);
+    for (size_t number = before; number < symbol_count; number++)
+        is_seen = is_seen || symbols[number].address;
+    is_seen = is_seen || symbol_count == before;
+    symbol_count = is_seen ? symbol_count : before;
+    return is_seen;
 }
 
 /* Compares the size of a file of the recording with what `control` says of it. */
@@ -146,12 +163,13 @@ static void load_image(void) {
         refuse(options.symbols, "can't be opened");
     if (text && control.is_there && !control.is_of_text && !options.symbols)
         compare_size("symbols", "symbols-cut", size, control.symbols);
-    if (text)
-        read_symbols(text);
+    if (text && !read_symbols(text))
+        refuse(name, "hides all addresses, as with kptr_restrict=2: `--symbols /dev/null` converts the recording without symbols");
     if (symbol_count && !image_start)
-        refuse(name, "has no _text, or root didn't read it");
+        refuse(name, "has no _text");
+    are_keys_hidden = !symbol_count && !control.is_of_text;
     if (!symbol_count && !control.is_of_text)
-        incomplete("no-symbols", "there are no symbols: classes of one name are joined");
+        incomplete("no-symbols", "there are no symbols: classes of one name are told apart by their keys alone, which other recordings don't have");
     else if (control.is_there && !control.is_of_text)
         compare_landmarks();
 }
@@ -160,9 +178,12 @@ static void load_image(void) {
 static void load_modules(void) {
     size_t size;
     char *text = read_raw("modules", &size);
-    if (text)
-        read_symbols(text);
-    else if (control.is_there && !control.is_of_text)
+    bool is_seen = !text || read_symbols(text);
+    are_keys_hidden = are_keys_hidden || !is_seen;
+    if (!is_seen)
+        incomplete("modules-hidden", "`modules` hides all addresses: classes of one name in modules are told apart by their keys alone, which other "
+                                     "recordings don't have");
+    else if (!text && control.is_there && !control.is_of_text)
         incomplete("modules-cut", "`modules` isn't there: classes of one name in modules are joined, and their callers aren't known");
     if (text && control.is_there && !control.is_of_text)
         compare_size("modules", "modules-cut", size, control.modules);
