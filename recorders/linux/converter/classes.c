@@ -205,13 +205,13 @@ static void tell_module(const struct class *class, char *end, size_t room, bool 
         snprintf(end, room, "@%s%s%s", class->module, is_own ? "" : ":", is_own ? "" : class->symbol->name);
 }
 
-/* Appends who takes a key in memory first, and its turn unless it is the first one. */
+/* Appends who takes a key in memory first, and its turn unless it is the first one. (What stands behind an `@` isn't looked at by types, as by `gather`.) */
 static void tell_taker(const struct class *class, char *end, size_t room) {
     const char *taker = taker_of(class);
     char turn[16] = "";
     if (class->turn > 1)
         snprintf(turn, sizeof turn, "+%d", class->turn);
-    snprintf(end, room, "%s%s%s%s", *taker || *turn ? "@" : "", *taker ? "by:" : "", taker, turn);
+    snprintf(end, room, "%s%s%s%s", *taker || *turn ? "~" : "", *taker ? "by:" : "", taker, turn);
 }
 
 /* Appends the symbol to a name, or the distance from the kernel's start if the symbol says nothing. A lock with the same
