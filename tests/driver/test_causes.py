@@ -58,7 +58,7 @@ class Causes(unittest.TestCase):
 
     def test_what_is_right_beside_it_is_no_part_of_it(self):
         """What other traces do too, and what was taken with the same lock held, is counted by itself."""
-        said = [cycle(("a/0", "b/0", "t/wrong.csv", 7), ("b/0", "a/0", "t/one-1.csv", 2)), cycle(("a/0", "c/0", "t/wrong.csv", 7), ("c/0", "a/0", "t/one-2.csv", 2))]
+        said = [cycle(("a/0", other, "t/wrong.csv", 7), (other, "a/0", "t/one-1.csv", 2 * place + 2)) for place, other in enumerate(("b/0", "c/0"))]
         found = self.sorted(said, {("a/0", "EN", "b/0"): 1, ("c/0", "EN", "a/0"): 2})
         self.assertEqual([group.cause.facts for group in groups_by_cause(found)], [[("a/0", "EN", "b/0")], [("c/0", "EN", "a/0")]])
 
@@ -79,7 +79,8 @@ class Causes(unittest.TestCase):
 
 class Traces(unittest.TestCase):
     def test_in_how_many_traces_something_is_is_read_off_condensed_ones(self):
-        texts = {"one": b'acq,"a,1",0,w\nacq,b,2,w\nrel,b,2\nrel,"a,1",0\non,hardirq\noff,softirq\nacq,b,2,rr\nrel,b,2\n', "two": b"acq,b,2,w\nrel,b,2\n", "bad": b""}
+        one = b'acq,"a,1",0,w\nacq,b,2,w\nrel,b,2\nrel,"a,1",0\non,hardirq\noff,softirq\nacq,b,2,rr\nrel,b,2\n'
+        texts = {"one": one, "two": b"acq,b,2,w\nrel,b,2\n", "bad": b""}
         with mock.patch.object(causes, "program_path", lambda: "lockdep"), mock.patch.object(
                 causes, "ask", lambda words, with_errors, path: Answer(b"lockdep,1\noff,hardirq\n" + texts[words[-1]], 0, b"")):
             count = traces_with({("a,1/0", "EN", "b/2"), ("hardirqs on", "b/2"), ("hardirq", "b/2")}, ["one", "two", "one", "bad"])

@@ -18,8 +18,10 @@ from ..program.checker import REFUSED, answer_of
 from ..program.findings import Finding, findings_of, numbered
 from ..record.folder import SIGNALS
 from ..record.kernels import left_out
+from ..record.summary import recorder_of
 from ..say.forms import text_of_form
 from ..say.found import Found
+from ..say.groups import MOST_GROUPS
 from .options import no_option
 
 # The options that take a value, with the name of the value.
@@ -97,10 +99,16 @@ def found_in(given: dict[str, str], files: list[str]) -> Found:
     findings = with_happened(findings, files)
     sources = sources_of(findings)
     result, recorded = sort(findings, [], entries, sources), Recorded(files)
-    if recorded.is_kernels():
+    if is_by_cause(recorded, result.new):
         result.new = by_cause(result.new, files)
         numbered(result.new + result.known)
     return Found(result.new, result.known, sources, recorded, files, left_out(files), raw=answer.output)
+
+
+def is_by_cause(recorded: Recorded, findings: list[Finding]) -> bool:
+    """Whether findings are sorted by what they come from: those of a kernel, and too many of traces of which it isn't known who recorded them."""
+    is_known = any(recorder_of(os.path.dirname(trace)) for trace in recorded.traces)
+    return recorded.is_kernels() or not is_known and len(findings) > MOST_GROUPS
 
 
 def with_happened(findings: list[Finding], files: list[str]) -> list[Finding]:

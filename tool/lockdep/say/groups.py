@@ -9,7 +9,7 @@ from ..program.findings import Cause, Finding
 Dependency = Tuple[str, str, str]
 Key = Tuple[Dependency, object]  # an order, and a signal's handler if the findings have one
 MOST_GROUPS = 20  # that are told at once, on a terminal and of what was gathered
-MOST_OTHERS = 20  # findings of a group of what was gathered that are named, besides the first one
+MOST_OTHERS = 20  # findings of a group that are named: of what was gathered besides the first one, and with each finding on a page
 MOST_BESIDE = 5  # the same of a kernel's cause
 
 

@@ -11,7 +11,7 @@ from ..base.words import as_sentence, counted, escaped, text_of
 from ..program.checker import version
 from ..program.findings import Finding
 from .found import HANG, Found, moment
-from .groups import groups_of
+from .groups import MOST_OTHERS, groups_of
 from .page_finding import blocked_html, breach_html, finding_html
 from .picture import picture_of
 
@@ -147,7 +147,9 @@ def groups_html(found: Found) -> Callable[[Finding], str]:
     """For a finding of a group, what the others have in common with it."""
     said = {}
     for group in [] if found.has_causes else groups_of(found.shown):
-        links = ", ".join('<a href="#finding-%d">%d</a>' % (finding.number, finding.number) for finding in group.findings)
+        links = ", ".join('<a href="#finding-%d">%d</a>' % (finding.number, finding.number) for finding in group.findings[:MOST_OTHERS])
+        left = len(group.findings) - MOST_OTHERS
+        links += " and %s" % counted(left, "more", "more") if left > 0 else ""
         for finding in group.findings if group.shared else ():
             said[finding.number] = '<p class="soft">Findings that have the order <code>%s</code>: %s</p>\n' % (escaped(group.shared), links)
     return lambda finding: said.get(finding.number, "")
