@@ -7,7 +7,6 @@ from __future__ import annotations
 import functools
 import heapq
 from collections import Counter
-from concurrent.futures import ThreadPoolExecutor
 from dataclasses import dataclass, field
 from typing import Iterator
 
@@ -142,6 +141,7 @@ def facts_of(program: str, trace: str) -> set[Fact] | None:
 
 def facts_in_turn(program: str, traces: list[str]) -> Iterator[set[Fact] | None]:
     """What each trace says, or none for one that can't be condensed."""
+    from concurrent.futures import ThreadPoolExecutor
     with ThreadPoolExecutor(WORKERS) as workers:
         yield from workers.map(functools.partial(facts_of, program), traces)
 

@@ -6,7 +6,7 @@ from dataclasses import replace
 from ..ask.causes import ENABLED
 from ..base.words import counted
 from ..places.sources import Sources, own_keys_of
-from ..program.findings import Cause, Fact, Finding
+from ..program.findings import Cause, Fact
 from .sentences import Names, cells_of, order_words, part_of_enabled, part_of_order, part_of_used, row_words
 
 
@@ -38,4 +38,4 @@ def doing_words(cause: Cause, sources: Sources, names: Names) -> str:
     shown = names.beside(own_keys_of(finding))
     order = next((order for order in finding.orders if order.dependency == fact), None)
     part = part_of_order(order, shown) if order else (part_of_enabled if fact[0].endswith(ENABLED) else part_of_used)(finding, shown)
-    return row_words(cells_of(replace(part, who=""), [], sources, 1))
+    return row_words(cells_of(replace(part, who=""), [event.file for event in finding.own_events()], sources, 1))
