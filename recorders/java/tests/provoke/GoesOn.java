@@ -121,7 +121,8 @@ final class GoesOn {
     public static void main(String[] words) throws IOException, InterruptedException {
         String way = words[0];
         if (way.equals("crowd")) startCrowd();
-        Thread watch = new Thread(() -> lookOn(() -> end(way)));
+        ThreadGroup beside = new ThreadGroup(Thread.currentThread().getThreadGroup().getParent(), "beside");
+        Thread watch = new Thread(way.equals("interrupt") ? beside : null, () -> lookOn(() -> end(way)));
         watch.setDaemon(way.equals("halt"));
         if (!way.equals("exit")) watch.start();
         if (way.equals("interrupt") || way.equals("crowd")) Apart.run(GoesOn::forwards, GoesOn::backwards);

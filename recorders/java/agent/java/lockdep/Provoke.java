@@ -12,8 +12,11 @@ import java.nio.channels.FileChannel;
 import java.nio.charset.StandardCharsets;
 import java.nio.file.Files;
 import java.nio.file.Paths;
+import java.util.ArrayList;
+import java.util.Arrays;
 import java.util.HashMap;
 import java.util.HashSet;
+import java.util.List;
 import java.util.Set;
 import java.util.concurrent.ConcurrentHashMap;
 import java.util.regex.Pattern;
@@ -96,12 +99,15 @@ public final class Provoke {
     private long locks;
     /** Those of all tasks. */
     private final Set<Stand> all = ConcurrentHashMap.newKeySet();
+    /** The threads that there are before the program begins, but for its first one: they do nothing by themselves. */
+    private final List<Thread> ownOfMachine = new ArrayList<>(Arrays.asList(allThreads()));
 
     private Provoke(String path, String plan, String pause) throws IOException {
         try (RandomAccessFile file = new RandomAccessFile(path, "rw")) {
             table = file.getChannel().map(FileChannel.MapMode.READ_WRITE, 0, file.length());
         }
         table.order(ByteOrder.nativeOrder());
+        ownOfMachine.remove(Thread.currentThread());
         texts = new File(path + ".texts");
         this.pause = Integer.parseInt(pause);
         int order = -1;
@@ -124,19 +130,25 @@ public final class Provoke {
         counting.start();
     }
 
-    /** Writes how many threads can go on, now and then: of the program's own, those that don't wait without an end. */
-    private void countThreads() {
-        ThreadGroup program = Thread.currentThread().getThreadGroup();
+    /** All threads, of whatever group; also those that virtual ones run in, or are woken by. */
+    private static Thread[] allThreads() {
+        ThreadGroup all = Thread.currentThread().getThreadGroup();
+        while (all.getParent() != null) all = all.getParent();
         Thread[] threads = new Thread[MOST_THREADS];
+        int count = all.enumerate(threads);
+        while (count == threads.length) { // there may be more
+            threads = new Thread[2 * count];
+            count = all.enumerate(threads);
+        }
+        return Arrays.copyOf(threads, count);
+    }
+
+    /** Writes how many threads can go on, now and then: those of the program, and that the machine has started for it, which don't wait without an end. */
+    private void countThreads() {
         try {
             while (true) {
                 int going = 0;
-                int count = program.enumerate(threads);
-                if (count == threads.length) { // there may be more
-                    threads = new Thread[2 * count];
-                    continue;
-                }
-                for (int at = 0; at < count; at++) if (canGoOn(threads[at])) going++;
+                for (Thread thread : allThreads()) if (canGoOn(thread)) going++;
                 table.putInt(COUNTING + 4, going);
                 table.putInt(COUNTING, pid);
                 Thread.sleep(LOOK);
@@ -147,9 +159,10 @@ public final class Provoke {
     }
 
     /** A thread without callers is one of the machine's own, as the one that waits for the others to end. */
-    private static boolean canGoOn(Thread thread) {
+    private boolean canGoOn(Thread thread) {
         Thread.State state = thread.getState();
         if (thread == Thread.currentThread() || state == Thread.State.BLOCKED || state == Thread.State.WAITING) return false;
+        for (Thread own : ownOfMachine) if (own == thread) return false;
         return thread.getStackTrace().length > 0;
     }
 
