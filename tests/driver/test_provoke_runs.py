@@ -331,18 +331,20 @@ class TheWatch(unittest.TestCase):
 
 class WhatCouldEndIt(unittest.TestCase):
     def found(self, releasing: int, going: int, call: int = IN_LOCK, timers: tuple[Timer, ...] = (), family: tuple[int, ...] = (),
-              caught: int = 14) -> list[Doubt]:
-        """Of two threads, of which the second one runs no handlers. The signal that is caught has one."""
+              caught: int = 14, blocked: int = 0, second: int | None = None) -> list[Doubt]:
+        """Of two threads, of which the second one runs no handlers, and may be of another process. The signal that is caught has one."""
         table = mock.Mock(spec=Table)
         table.timers.return_value, table.last.return_value = timers, last()
         with mock.patch.multiple(standing, heeded_by=lambda process, threads: 1 << caught >> 1 if threads else 0, tasks_of=lambda _: [2],
-                                 descendants=lambda process: list(family), first_of_run=lambda process: process, goes_on=lambda process, stuck: process > 0):
-            return doubts([thread(1, 20, 10, releasing, call), thread(2, 10, 20, releasing, WITHOUT_HANDLERS)], going, table)
+                                 descendants=lambda process: list(family), mask_in=lambda *_: blocked, goes_on=lambda process, stuck: process > 0):
+            other = dataclasses.replace(thread(2, 10, 20, releasing, WITHOUT_HANDLERS), process=second or os.getpid())
+            return doubts([thread(1, 20, 10, releasing, call), other], going, table)
 
     def test_other_threads(self) -> None:
         nobody = [Doubt("2 other threads can go on, though no thread may release what another one holds", False)]
         interrupts = "1 other thread can go on, and may interrupt one of these"
-        rows = ((0, 0, IN_LOCK, []), (0, 2, IN_LOCK, nobody), (BY_HOLDER, 2, IN_LOCK, []),
+        rows = ((0, 0, IN_LOCK, []), (0, 2, IN_LOCK, nobody), (BY_HOLDER, 2, WITHOUT_HANDLERS, []), (BY_HOLDER, 0, IN_LOCK, []),
+                (BY_HOLDER, 2, IN_LOCK, [Doubt("2 other threads can go on, and may set a handler for a signal, and send that", False)]),
                 (BY_OTHERS, 1, IN_LOCK, [Doubt("1 other thread can go on, and any thread may release such a lock", False)]),
                 (BY_ANYBODY, 1, IN_LOCK, [Doubt("1 other thread can go on, and any thread may release such a lock", True)]),
                 (BY_HOLDER, 0, INTERRUPTIBLE, []), (BY_HOLDER, 1, INTERRUPTIBLE, [Doubt(interrupts, True)]),
@@ -352,8 +354,15 @@ class WhatCouldEndIt(unittest.TestCase):
 
     def test_a_handler_runs_in_a_thread_that_stands(self) -> None:
         handler = [Doubt("1 other thread can go on, and may send a signal that has a handler: SIGUSR1", False)]
-        for call, going, caught, wanted in ((IN_LOCK, 1, 10, handler), (WITHOUT_HANDLERS, 1, 10, []), (IN_LOCK, 0, 10, []), (IN_LOCK, 1, 11, [])):
+        of_fault = [Doubt("1 other thread can go on, and may set a handler for a signal, and send that", False)]
+        for call, going, caught, wanted in ((IN_LOCK, 1, 10, handler), (WITHOUT_HANDLERS, 1, 10, []), (IN_LOCK, 0, 10, []), (IN_LOCK, 1, 11, of_fault)):
             self.assertEqual(self.found(BY_HOLDER, going, call, caught=caught), wanted, (call, going, caught))
+
+    def test_no_handler_runs_in_a_thread_that_blocks_all_signals(self) -> None:
+        """But for SIGKILL and SIGSTOP, 9 and 19, and two of the C library, which can't be blocked. Those of faults, as 11, may stay unblocked."""
+        never = 1 << 8 | 1 << 18 | 3 << 31
+        for blocked, reached in ((~never, False), (~never & ~(1 << 10), False), (~never & ~(1 << 9), True), (~never & ~(1 << 33), True)):
+            self.assertEqual(bool(self.found(BY_HOLDER, 1, caught=0, blocked=blocked)), reached, blocked)
 
     def test_a_handler_of_another_thread_may_release_what_not_only_the_holder_can(self) -> None:
         handler = [Doubt("1 other process goes on, and may send a signal that has a handler: SIGUSR1", False)]
@@ -375,13 +384,6 @@ class WhatCouldEndIt(unittest.TestCase):
                               (2, "its threads stand still, and 2 other threads can go on")):
             self.assertEqual(still_words(Outcome(going=going)), wanted)
 
-    def test_what_a_shell_has_left_is_of_the_run(self) -> None:
-        """Not what another child of this command has started, as the load of a server."""
-        given = {"/proc/8/environ": b"HOME=/\0LOCKDEP_PROVOKE_TABLE=table\0"}
-        with mock.patch.multiple(standing, children_of=lambda _: [5, 6, 7, 8], session_of=lambda process: {5: 5, 6: 5, 7: 7, 8: 8}[process],
-                                 descendants=lambda process: [10 * process], contents=given.get):
-            self.assertEqual(standing.left_by(5), [6, 60, 8, 80])
-
     def test_a_signal_that_all_threads_block_ends_nothing(self) -> None:
         """As that of a timer whose handler is where the only thread stands."""
         before = signal.signal(signal.SIGUSR2, lambda *_: None)
@@ -395,10 +397,14 @@ class WhatCouldEndIt(unittest.TestCase):
 
     def test_other_processes(self) -> None:
         handler = [Doubt("1 other process goes on, and may send a signal that has a handler: SIGUSR1", False)]
-        awaited = [Doubt("2 other processes go on, and may be awaited by what interrupts one of these", False)]
-        for call, family, caught, wanted in ((IN_LOCK, (7,), 10, handler), (IN_LOCK, (-7,), 10, []), (IN_LOCK, (), 10, []), (IN_LOCK, (7,), 11, []),
-                                             (IN_LOCK, (7,), 34, []), (INTERRUPTIBLE, (7, 8), 0, awaited)):
-            self.assertEqual(self.found(BY_HOLDER, 0, call, family=family, caught=caught), wanted, (call, family, caught))
+        real_time = [Doubt("1 other process goes on, and may send a signal that has a handler: SIGRTMIN", False)]
+        for family, caught, wanted in (((7,), 10, handler), ((-7,), 10, []), ((), 10, []), ((7,), 11, []), ((7,), 34, real_time), ((7,), 33, [])):
+            self.assertEqual(self.found(BY_HOLDER, 0, family=family, caught=caught), wanted, (family, caught))
+
+    def test_the_end_of_one_process_releases_its_robust_locks(self) -> None:
+        robust = [Doubt("2 other processes go on, and may end one of these, which releases its robust locks", False)]
+        for releasing, second, family, wanted in ((BY_OTHERS, 2, (7, 8), robust), (BY_OTHERS, 2, (), []), (BY_OTHERS, None, (7, 8), []), (0, 2, (7, 8), [])):
+            self.assertEqual(self.found(releasing, 0, family=family, caught=0, second=second), wanted, (releasing, second, family))
 
     def test_processes_that_wait_only_for_stuck_ones(self) -> None:
         waits_for = {2: {1}, 3: {2}, 4: {5}, 5: {4, 6}, 6: {7}}
@@ -409,7 +415,7 @@ class WhatCouldEndIt(unittest.TestCase):
         """Threads that wake one another all wait where each is looked at, but not at the same time."""
         sleeps = iter(({5: "1", 6: "7"}, {5: "2", 6: "7"}) * 2)
         with mock.patch.multiple(standing, is_endless=lambda *_: True, goes_on=lambda *_: False, sleeps_of=lambda _: next(sleeps), tasks_of=lambda _: [5, 6]):
-            self.assertEqual(standing.going_on([thread(4, 20, 10, BY_ANYBODY)], mock.Mock(spec=Table, last=last)), 1)
+            self.assertEqual(standing.going_on([thread(4, 20, 10, BY_ANYBODY)], mock.Mock(spec=Table, last=last, path="")), 1)
             self.assertEqual(standing.going_beside({1}, {2}), {2})
         own = os.getpid()
         before = system.sleeps_of(own)

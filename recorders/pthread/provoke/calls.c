@@ -511,31 +511,39 @@ static struct asked end_of(uint64_t thread, uintptr_t caller) { return ASKED(thr
 JOINING(pthread_join, pthread_t, void *)
 JOINING(thrd_join, thrd_t, int)
 
+EXPORT int pthread_setcanceltype(int type, int *old) {
+    is_ended_anywhere = type == PTHREAD_CANCEL_ASYNCHRONOUS;
+    return REAL(pthread_setcanceltype)(type, old);
+}
+
 /* ---- Timers. */
 
 #define OWN_OF_PROCESS 1 /* `alarm` and ITIMER_REAL are one timer */
+#define OWN_BY_WORK 2    /* and two have the time in which the process runs */
 #define NANOSECONDS_OF_SECOND 1000000000ull
 #define NANOSECONDS_OF_MICROSECOND 1000ull
 
-static uint64_t own_of(timer_t timer) { return 2 + (uint64_t)(uintptr_t)timer; }
+static uint64_t own_of(timer_t timer) { return 2 * OWN_BY_WORK + (uint64_t)(uintptr_t)timer; }
 static uint64_t of_spec(struct timespec time) { return (uint64_t)time.tv_sec * NANOSECONDS_OF_SECOND + (uint64_t)time.tv_nsec; }
 static uint64_t of_value(struct timeval time) { return (uint64_t)time.tv_sec * NANOSECONDS_OF_SECOND + (uint64_t)time.tv_usec * NANOSECONDS_OF_MICROSECOND; }
 
-static void arm_own(uint64_t in, uint64_t again) {
-    if (!is_planned)
+static void arm_own(__itimer_which_t which, uint64_t in, uint64_t again) {
+    static const int signals[] = {[ITIMER_REAL] = SIGALRM, [ITIMER_VIRTUAL] = SIGVTALRM, [ITIMER_PROF] = SIGPROF};
+    if (!is_planned || which > ITIMER_PROF)
         return;
-    know_timer(OWN_OF_PROCESS, SIGALRM);
-    arm_timer(OWN_OF_PROCESS, in, again, false);
+    uint64_t own = which == ITIMER_REAL ? OWN_OF_PROCESS : OWN_BY_WORK + (which == ITIMER_PROF);
+    know_timer(own, signals[which]);
+    arm_timer(own, in, again, which != ITIMER_REAL);
 }
 
 EXPORT unsigned alarm(unsigned seconds) {
-    arm_own(seconds * NANOSECONDS_OF_SECOND, 0);
+    arm_own(ITIMER_REAL, seconds * NANOSECONDS_OF_SECOND, 0);
     return REAL(alarm)(seconds);
 }
 
 EXPORT int setitimer(__itimer_which_t which, const struct itimerval *set, struct itimerval *old) {
-    if (which == ITIMER_REAL && set)
-        arm_own(of_value(set->it_value), of_value(set->it_interval));
+    if (set)
+        arm_own(which, of_value(set->it_value), of_value(set->it_interval));
     return REAL(setitimer)(which, set, old);
 }
 
@@ -554,6 +562,6 @@ EXPORT int timer_settime(timer_t timer, int flags, const struct itimerspec *set,
 
 EXPORT int timer_delete(timer_t timer) {
     if (is_planned)
-        arm_timer(own_of(timer), 0, 0, false);
+        forget_timer(own_of(timer));
     return REAL(timer_delete)(timer);
 }

@@ -81,11 +81,12 @@ enum passed { PASSED_NOT, PASSED_ASKED, PASSED_TAKEN, PASSED_RELEASED };
 /* A timer that sends a signal: when it does next, by the clock that only goes on, and how often again; 0 if it isn't armed. */
 struct timer {
     int32_t process;
-    int32_t signal; /* TIMER_RUNS: it runs a function instead */
+    int32_t signal; /* or TIMER_RUNS, or TIMER_OTHERS */
     uint64_t at, again; /* nanoseconds */
     uint64_t own; /* which one it is */
 };
-#define TIMER_RUNS -1
+#define TIMER_RUNS -1   /* it runs a function instead */
+#define TIMER_OTHERS -2 /* there is no room for more: these may be armed */
 
 /* A thread stood at one point, and another one waited for it at the other one, before it came to where it was to stand: so the schedule couldn't be
    followed. If the second is 0, the first one was held back for the whole pause, and others didn't come, who may only be slow. What comes after that
@@ -174,12 +175,14 @@ uint64_t orders_by_signals(void);
 void send_signals(uint64_t holds);
 void know_timer(uint64_t own, int signal);
 void arm_timer(uint64_t own, uint64_t in, uint64_t again, bool is_time);
+void forget_timer(uint64_t own);
 
 /* shared.c */
 uint64_t number_of_lock(const void *lock);
 
 /* threads.c */
 extern struct table *table;
+extern __thread bool is_ended_anywhere; /* whether this thread may be cancelled at any moment, and so in any wait */
 bool open_table(const char *path);
 bool is_known_thread(void);
 bool holds_nothing(void);

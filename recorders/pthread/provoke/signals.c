@@ -3,6 +3,7 @@
 #define _GNU_SOURCE
 #include "provoke.h"
 
+#include <errno.h>
 #include <pthread.h>
 #include <signal.h>
 #include <sys/syscall.h>
@@ -43,22 +44,37 @@ static struct timer *timer_of(uint64_t own) {
     return NULL;
 }
 
-static struct timer *new_timer(uint64_t own) {
-    for (int i = 0; i < MOST_TIMERS; i++) {
-        int32_t nobody = 0;
-        if (!__atomic_compare_exchange_n(&table->timers[i].process, &nobody, (int32_t)getpid(), false, __ATOMIC_ACQ_REL, __ATOMIC_RELAXED))
-            continue;
-        table->timers[i].own = own;
-        return &table->timers[i];
-    }
-    return NULL;
+/* Takes a row that is nobody's, or of a process that has ended. */
+static bool take_row(struct timer *timer) {
+    int32_t owner = timer->process;
+    return (owner == 0 || (kill(owner, 0) != 0 && errno == ESRCH)) &&
+           __atomic_compare_exchange_n(&timer->process, &owner, (int32_t)getpid(), false, __ATOMIC_ACQ_REL, __ATOMIC_RELAXED);
 }
 
-/* Which signal a timer sends. */
+static struct timer *new_timer(uint64_t own) {
+    int row = 0;
+    while (row < MOST_TIMERS - 1 && !take_row(&table->timers[row]))
+        row++;
+    struct timer *timer = &table->timers[row];
+    *timer = (struct timer){.process = (int32_t)getpid(), .own = own};
+    return row < MOST_TIMERS - 1 ? timer : NULL;
+}
+
+/* Which signal a timer sends. The last row is for those that have none of their own. */
 void know_timer(uint64_t own, int signal) {
+    int before = errno;
     struct timer *timer = timer_of(own) ? timer_of(own) : new_timer(own);
     if (timer)
         timer->signal = signal;
+    else
+        table->timers[MOST_TIMERS - 1] = (struct timer){.process = (int32_t)getpid(), .signal = TIMER_OTHERS, .at = UINT64_MAX};
+    errno = before;
+}
+
+void forget_timer(uint64_t own) {
+    struct timer *timer = timer_of(own);
+    if (timer)
+        __atomic_store_n(&timer->process, 0, __ATOMIC_RELEASE);
 }
 
 static bool is_armed(int signal) {

@@ -28,6 +28,7 @@
 
 struct table *table;
 
+__thread bool is_ended_anywhere;
 static __thread struct thread *mine;
 static pthread_key_t at_exit;
 static pthread_mutex_t standing = PTHREAD_MUTEX_INITIALIZER;
@@ -219,7 +220,7 @@ static void note_wanted(const struct asked *asked, enum state state) {
     for (int i = 0; i < asked->stack.depth; i++)
         mine->callers[i] = asked->stack.callers[i];
     mine->mode = asked->mode;
-    mine->call = asked->call | (asked->call == CALL_JOIN ? CALL_INTERRUPTIBLE : 0); /* (a join ends if its thread is cancelled) */
+    mine->call = asked->call | (asked->call == CALL_JOIN || is_ended_anywhere ? CALL_INTERRUPTIBLE : 0); /* (a join ends if its thread is cancelled) */
     mine->point = asked->point;
     STORE(&mine->awaited, asked->lock);
     STORE(&mine->state, state);

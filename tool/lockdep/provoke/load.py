@@ -19,14 +19,14 @@ class Load:
         self.child: subprocess.Popen | None = None
         self.asked_at = 0.0  # when the program was asked to end
 
-    def step(self, takes_locks: bool, program: int) -> None:
-        """Begins the command once the program takes locks, and tells the program to end once the command has ended."""
+    def step(self, takes_locks: bool, program: int, is_standing: bool = False) -> None:
+        """Begins the command once the program takes locks, and tells the program to end once the command has ended, unless that stands still by now."""
         if not self.command:
             return
         if self.child is None:
             if takes_locks:
                 self.start()
-        elif not self.asked_at and self.child.poll() is not None:
+        elif not self.asked_at and not is_standing and self.child.poll() is not None:
             self.asked_at = time.monotonic()
             send(program, signal.SIGTERM)
 

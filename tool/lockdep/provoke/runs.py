@@ -74,8 +74,7 @@ class Run:
                                stood=watch.stood, builds=builds_of(watch.cycle[0], watch.standing))
             if self.child.poll() is not None and not self.is_something_left():
                 return self.ended(watch, self.child.returncode)
-            if not watch.cycle:  # (or the program may be ended that stands still)
-                self.load.step(bool(self.table.threads()), self.child.pid)
+            self.load.step(bool(self.table.threads()), self.child.pid, bool(watch.cycle))
             time.sleep(LOOK)
         is_running = self.child.returncode is None
         return Outcome(status=self.child.returncode, waiting=waiting(self.table, self.holder.numbers) if is_running else None, went_on=watch.longest)

@@ -11,9 +11,9 @@ from ..base.words import counted
 from ..binaries.elf import build_words
 from ..binaries.symbols import Address
 from .holders import LIBRARY
-from .system import ENDED, STOPPED, children_of, descendants, is_endless, link_of, parent_of, session_of, sleeps_of, state_of, tasks_of, text_of_file
-from .table import (BY_ANYBODY, BY_HOLDER, BY_OTHERS, IN_CONDITION, IN_JOIN, IN_ONCE, IN_SEMAPHORE, IN_SPIN, READS_BEHIND, RUNS_FUNCTION, SHARED_LOCK,
-                    WAITS, WRITES, Held, Modules, Place, Table, Thread, cycle_in)
+from .system import ENDED, STOPPED, descendants, is_endless, link_of, sleeps_of, state_of, tasks_of, text_of_file, waits_at
+from .table import (BY_ANYBODY, BY_HOLDER, BY_OTHERS, IN_CONDITION, IN_JOIN, IN_ONCE, IN_SEMAPHORE, IN_SPIN, OTHERS, READS_BEHIND, RUNS_FUNCTION,
+                    SHARED_LOCK, WAITS, WRITES, Held, Modules, Place, Table, Thread, cycle_in)
 
 ASLEEP = "S"  # the state of a thread, as the kernel has it
 RUNNING = "R"
@@ -22,12 +22,14 @@ LOOK = 0.02  # seconds from one look to the next
 LONGEST_LOOK = 2 * LOOK  # that counts: where the machine stood meanwhile, what could end a standstill stood too
 LOOKS_STILL = 0.2  # seconds after which it is said that threads stood, if they go on later
 WAITS_IN = {IN_CONDITION: "to be woken", IN_JOIN: "for a thread's end", IN_ONCE: "for what runs once", IN_SEMAPHORE: "for a semaphore", IN_SPIN: "for a spin lock"}
-OF_RUN = b"LOCKDEP_PROVOKE_TABLE="  # is in the environment of each process of a run
 OF_THE_SYSTEM = ("libc.so", "libpthread.so", "ld-linux")  # modules whose functions begin each thread
 HANDLED = "may send a signal that has a handler: %s"
+ARMED = {RUNS_FUNCTION: "a timer is armed that runs a function", OTHERS: "there are more timers than are watched, which may be armed"}
+MAY_SET = "may set a handler for a signal, and send that"
 CAUGHT, IGNORED, BLOCKED = b"SigCgt:", b"SigIgn:", b"SigBlk:"  # begin lines of what the system says of a process, and of a thread
 OF_FAULTS = {signal.SIGSEGV, signal.SIGBUS, signal.SIGFPE, signal.SIGILL, signal.SIGTRAP, signal.SIGABRT, signal.SIGSYS}
-FIRST_OF_SYSTEM = 32  # the first signal of the C library's own
+UNSENT = {signal.SIGKILL, signal.SIGSTOP, 32, 33}  # signals without handlers, and the C library's own
+WITH_HANDLERS = [number for number in range(1, 65) if number not in OF_FAULTS | UNSENT]
 
 
 @dataclass(frozen=True)
@@ -138,33 +140,19 @@ def doubts(cycle: list[Thread], going: int, table: Table) -> list[Doubt]:
 
 
 def other_processes(cycle: list[Thread]) -> list[Doubt]:
-    """Processes of the run that go on beside those of the cycle: one may send a signal that has a handler, or be awaited by what interrupts a wait."""
-    processes, is_interruptible, caught = {thread.process for thread in cycle}, any(thread.is_interruptible for thread in cycle), handled_in(cycle)
-    family = {each for process in processes for first in [first_of_run(process)] for each in [first, *descendants(first), *left_by(first)]} - processes
-    going = len(going_beside(processes, family)) if caught or is_interruptible else 0
-    if not going:
-        return []
-    may = "may be awaited by what interrupts one of these" if is_interruptible else HANDLED % ", ".join(caught)
-    return [Doubt("%s, and %s" % (counted(going, "other process goes on", "other processes go on"), may), False)]
+    """Processes of the run and of the load beside it, which go on beside those of the cycle, where one of them can do something about it."""
+    processes, may = {thread.process for thread in cycle}, what_processes_may(cycle)
+    going = len(going_beside(processes, set(descendants(os.getpid())) - processes)) if may else 0
+    return [Doubt("%s, and %s" % (counted(going, "other process goes on", "other processes go on"), may), False)] if going else []
 
 
-def first_of_run(process: int) -> int:
-    """The process of a run from which another one comes: a child of this command's."""
-    while parent_of(process) not in (0, 1, os.getpid()):
-        process = parent_of(process)
-    return process
-
-
-def left_by(first: int) -> list[int]:
-    """The processes of a run whose own parents have ended, as what a shell has left in the background, with those that they have started."""
-    left = [child for child in children_of(os.getpid()) if child != first and is_of_run(child, first)]
-    return [each for child in left for each in [child, *descendants(child)]]
-
-
-def is_of_run(child: int, first: int) -> bool:
-    """Whether another child of this command is of the run that began with the first one, and not of the load beside it: by its session, or, if it has begun
-    its own as a daemon does, by what every process of a run is given."""
-    return session_of(child) == session_of(first) or OF_RUN in (contents("/proc/%d/environ" % child) or b"")
+def what_processes_may(cycle: list[Thread]) -> str:
+    """What another process could do about it: send a signal that has a handler, or end one process of several, which releases its robust locks. Empty if
+    it can do nothing."""
+    if handled_in(cycle):
+        return HANDLED % ", ".join(handled_in(cycle))
+    is_released = len({thread.process for thread in cycle}) > 1 and any(each.releasing == BY_OTHERS for each in awaited_in(cycle))
+    return "may end one of these, which releases its robust locks" if is_released else ""
 
 
 def going_beside(stuck: set[int], others: set[int]) -> set[int]:
@@ -188,27 +176,35 @@ def handled_in(cycle: list[Thread]) -> list[str]:
     for process in {thread.process for thread in cycle}:
         own = [thread.thread for thread in cycle if thread.process == process and thread.runs_handlers]
         heeded |= heeded_by(process, own if is_by_holders(cycle) else tasks_of(process))
-    return [name_of_signal(number) for number in range(1, FIRST_OF_SYSTEM) if heeded >> number - 1 & 1 and number not in OF_FAULTS]
+    return [name_of_signal(number) for number in WITH_HANDLERS if heeded >> number - 1 & 1]
+
+
+def is_reached_by_signals(thread: Thread) -> bool:
+    """Whether another thread of its process could have a handler run in a thread that waits: for a signal that this one doesn't block, which needn't have
+    a handler yet."""
+    blocked = mask_in("/proc/%d/task/%d/status" % (thread.process, thread.thread), BLOCKED)
+    return thread.runs_handlers and any(not blocked >> number - 1 & 1 for number in WITH_HANDLERS)
 
 
 def timers_armed(cycle: list[Thread], table: Table) -> list[Doubt]:
     processes, now = {thread.process for thread in cycle}, time.monotonic()
     armed = [timer for timer in table.timers() if timer.process in processes and timer.is_armed(now)]
-    said = ["a timer is armed that runs a function" if timer.signal == RUNS_FUNCTION else "a timer is armed, and %s has a handler" % name_of_signal(timer.signal)
-            for timer in armed if timer.signal == RUNS_FUNCTION or is_caught(timer.process, timer.signal)]
+    said = [ARMED.get(timer.signal, "a timer is armed, and %s has a handler" % name_of_signal(timer.signal))
+            for timer in armed if timer.signal in ARMED or is_caught(timer.process, timer.signal)]
     return [Doubt(words, True) for words in dict.fromkeys(said)]
 
 
 def others(cycle: list[Thread], going: int, table: Table) -> list[Doubt]:
     """Threads of the same processes that aren't in the cycle, and go on, or can: one of them could interrupt a wait that may be, release a lock of the
-    cycle, unless that refuses to be released by anybody but its holder, or else send a signal that has a handler. Few joins are interrupted."""
+    cycle, unless that refuses to be released by anybody but its holder, or else have a handler of a signal run there. Few joins are interrupted."""
     if not going:
         return []
     may = "%s, " % going_words(going)
     if any(thread.is_interruptible for thread in cycle):
         return [Doubt(may + "and may interrupt one of these", any(thread.is_interruptible and thread.call != IN_JOIN for thread in cycle))]
     if is_by_holders(cycle):
-        return [Doubt(may + "and " + HANDLED % ", ".join(caught), False) for caught in [handled_in(cycle)] if caught]
+        is_reached, caught = any(map(is_reached_by_signals, cycle)), handled_in(cycle)
+        return [Doubt(may + "and " + (HANDLED % ", ".join(caught) if caught else MAY_SET), False)] if is_reached else []
     who = {each.releasing for each in awaited_in(cycle)}
     is_usual = BY_ANYBODY in who or table.last().is_handed_over
     releases = "and any thread may release such a lock" if is_usual or BY_OTHERS in who else "though no thread may release what another one holds"
@@ -235,7 +231,8 @@ def going_on(cycle: list[Thread], table: Table) -> int:
     processes, last = {thread.process for thread in cycle}, table.last()
     if processes == {last.counting}:
         return last.going
-    sharing = processes | (sharing_with(processes, table.path) if any(thread.awaited & SHARED_LOCK for thread in cycle) else set())
+    is_shared = any(thread.awaited & SHARED_LOCK for thread in cycle) or any(waits_in_shared_memory(process, table.path) for process in processes)
+    sharing = processes | (sharing_with(processes, table.path) if is_shared else set())
     slept = {process: sleeps_of(process) for process in sharing}
     going = sum(not is_endless(process, task, processes) for process in sharing for task in tasks_of(process) if task not in own and state_of(process, task) not in ENDED)
     return going or sum(times != slept[process].get(task) for process in sharing for task, times in sleeps_of(process).items())
@@ -243,14 +240,21 @@ def going_on(cycle: list[Thread], table: Table) -> int:
 
 def sharing_with(processes: set[int], but: str) -> set[int]:
     """The processes of a run that share memory with these, but for the file of this command."""
-    shared = {each for process in processes for each in shared_memory(process, but)}
-    return {process for process in descendants(os.getpid()) if shared_memory(process, but) & shared}
+    shared = {each for process in processes for _, _, each in shared_memory(process, but)}
+    return {process for process in descendants(os.getpid()) if any(each in shared for _, _, each in shared_memory(process, but))}
 
 
-def shared_memory(process: int, but: str) -> set[tuple[str, str]]:
-    """The files that a process has as memory which it shares, each by its device and its number there."""
+def waits_in_shared_memory(process: int, but: str) -> bool:
+    """Whether a thread of a process waits in memory that other processes may share, one of which can wake it."""
+    waited = [waits_at(process, task) for task in tasks_of(process)]
+    return any(start <= address < end for start, end, _ in shared_memory(process, but) for address in waited)
+
+
+def shared_memory(process: int, but: str) -> list[tuple[int, int, tuple[str, str]]]:
+    """The memory that a process shares: where it begins and ends, and the file that it is, by its device and its number there."""
     lines = [line.split(None, 5) for line in text_of_file("/proc/%d/maps" % process).splitlines()]
-    return {(words[3], words[4]) for words in lines if words[1].endswith("s") and words[-1] != but}
+    ranges = [(words[0].split("-"), words) for words in lines if words[1].endswith("s") and words[-1] != but]
+    return [(int(start, 16), int(end, 16), (words[3], words[4])) for (start, end), words in ranges]
 
 
 def is_caught(process: int, number: int) -> bool:

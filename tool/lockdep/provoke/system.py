@@ -66,14 +66,6 @@ def children_of(process: int) -> list[int]:
     return [int(name) for name in os.listdir("/proc") if name.isdigit() and parent_of(int(name)) == process]
 
 
-def session_of(process: int) -> int:
-    """The session of a process; 0 if it is gone."""
-    try:
-        return os.getsid(process)
-    except OSError:
-        return 0
-
-
 def descendants(process: int) -> list[int]:
     """What a process has started, and what that has, as long as these are there."""
     parents = {int(name): parent_of(int(name)) for name in os.listdir("/proc") if name.isdigit()}
@@ -94,6 +86,12 @@ def sleeps_of(process: int) -> dict[int, str]:
     """How often each thread of a process has gone to sleep, as the system has it."""
     lines = {task: text_of_file("/proc/%d/task/%d/status" % (process, task)).splitlines() for task in tasks_of(process)}
     return {task: next((line for line in said if line.startswith("voluntary")), "") for task, said in lines.items()}
+
+
+def waits_at(process: int, thread: int) -> int:
+    """The address at which a thread waits in a system call for a lock or the like; 0 if it is in none."""
+    call = call_of(process, thread)
+    return int(call[1], 16) if call[:1] == [FUTEX] else 0
 
 
 def waits_for_lock(call: list[str]) -> bool:

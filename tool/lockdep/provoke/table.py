@@ -36,7 +36,7 @@ INTERRUPTIBLE, WITHOUT_HANDLERS = 0x10, 0x20  # bits besides that: an interrupt 
 BY_HOLDER, BY_ANYBODY, BY_OTHERS = 1, 2, 3  # who may release a lock: its holder alone, anybody, as a rule, or others, if need be
 ASKED, TAKEN = 1, 2  # how far a point of the schedule was come to
 NANOSECONDS = 1e9  # of a second
-RUNS_FUNCTION = -1  # of a timer that sends no signal
+RUNS_FUNCTION, OTHERS = -1, -2  # of a timer that sends no signal, and of those for which there is no room
 
 
 class Counts(NamedTuple):
@@ -146,7 +146,7 @@ class Table:
 
     def threads(self) -> list[Thread]:
         """All threads that there are."""
-        starts = range(FIRST_THREAD, SIZE, SIZE_OF_THREAD)
+        starts = range(FIRST_THREAD, FIRST_TIMER, SIZE_OF_THREAD)
         return [self.thread_at(start) for start in starts if self.raw[start:start + 4] != b"\0\0\0\0"]
 
     def thread_at(self, start: int) -> Thread:

@@ -5,7 +5,7 @@
 #include <setjmp.h>
 #include <signal.h>
 #include <stdatomic.h>
-#include <sys/wait.h>
+#include <sys/time.h>
 
 #define LOOK 50000 /* microseconds */
 #define EARLY 12   /* looks at held locks after which a thread releases what another one holds: `provoke` has looked as often by then */
@@ -66,7 +66,7 @@ static void *watches(void *with) {
 
 static void watched(void) { RUN(takes_ab, takes_ba, watches); }
 
-/* Mutexes that only their holders can release, so that a thread that ends the program later is no way out of the wait. */
+/* Mutexes that only their holders can release. */
 static void release_by_holders(void) { a = b = (pthread_mutex_t)PTHREAD_ERRORCHECK_MUTEX_INITIALIZER_NP; }
 
 static void *watches_on(void *with) {
@@ -74,7 +74,11 @@ static void *watches_on(void *with) {
     return with;
 }
 
+/* No thread can have a handler run in those that wait, so that one that ends the program later is no way out of the wait. */
 static void watched_on(void) {
+    sigset_t all;
+    sigfillset(&all);
+    pthread_sigmask(SIG_BLOCK, &all, NULL);
     release_by_holders();
     RUN(takes_ab, takes_ba, watches_on);
 }
@@ -123,6 +127,55 @@ static void sent_by_thread(void) {
     RUN(takes_ab, jumps_out, sends);
 }
 
+/* ---- A handler that is set only when it is needed. */
+
+static void set_and_send(void) {
+    signal(SIGUSR1, jump);
+    send();
+}
+
+static void *sends_late(void *with) {
+    look_on(LATE, set_and_send);
+    return with;
+}
+
+static void sent_late(void) {
+    release_by_holders();
+    RUN(takes_ab, jumps_out, sends_late);
+}
+
+/* ---- A thread that may be cancelled anywhere. */
+
+static void leave(void *with) {
+    (void)with;
+    pthread_mutex_unlock(&b);
+    over++;
+}
+
+static void *ends_anywhere(void *with) {
+    jumping = pthread_self();
+    pthread_setcanceltype(PTHREAD_CANCEL_ASYNCHRONOUS, NULL);
+    pthread_cleanup_push(leave, NULL);
+    takes_ba(with);
+    pthread_cleanup_pop(0);
+    return with;
+}
+
+static void cancel(void) { pthread_cancel(jumping); }
+
+static void *cancels(void *with) {
+    look_on(LATE, cancel);
+    return with;
+}
+
+static void cancelled(void) {
+    sigset_t all;
+    sigfillset(&all);
+    pthread_sigmask(SIG_BLOCK, &all, NULL);
+    release_by_holders();
+    RUN(takes_ab, ends_anywhere, cancels);
+}
+
 /* ---- Another process, which sends a signal. */
 
 static void run_beside(int number, routine *second) {
@@ -144,24 +197,126 @@ static void sent(void) {
 
 static void killed(void) { run_beside(SIGKILL, takes_ba); }
 
-/* ---- A timer that runs a function. */
+/* The command beside the run sends it. */
+static void served(void) {
+    signal(SIGUSR1, jump);
+    RUN(takes_ab, jumps_out);
+}
+
+/* That command may also end one of two processes, whose mutexes the other one gets then. */
+static void robust(void) { run_processes(PTHREAD_MUTEX_ROBUST); }
+
+/* ---- Another process, which wakes a thread. */
+
+static struct bell {
+    pthread_mutex_t lock;
+    pthread_cond_t rings;
+    bool has_rung;
+} *bell;
+
+static void ring(void) {
+    pthread_mutex_lock(&bell->lock);
+    bell->has_rung = true;
+    pthread_cond_signal(&bell->rings);
+    pthread_mutex_unlock(&bell->lock);
+}
+
+static void *releases_when_it_rings(void *with) {
+    pthread_mutex_lock(&bell->lock);
+    while (!bell->has_rung)
+        pthread_cond_wait(&bell->rings, &bell->lock);
+    pthread_mutex_unlock(&bell->lock);
+    if (over < 2)
+        release();
+    return with;
+}
+
+static void make_bell(void) {
+    pthread_mutexattr_t of_lock;
+    pthread_condattr_t of_rings;
+    bell = mmap(NULL, sizeof *bell, PROT_READ | PROT_WRITE, MAP_SHARED | MAP_ANONYMOUS, -1, 0);
+    pthread_mutexattr_init(&of_lock);
+    pthread_mutexattr_setpshared(&of_lock, PTHREAD_PROCESS_SHARED);
+    pthread_mutex_init(&bell->lock, &of_lock);
+    pthread_condattr_init(&of_rings);
+    pthread_condattr_setpshared(&of_rings, PTHREAD_PROCESS_SHARED);
+    pthread_cond_init(&bell->rings, &of_rings);
+}
+
+static void woken(void) {
+    pthread_t releasing;
+    make_bell();
+    pid_t other = fork();
+    if (other == 0) {
+        sleep(SECONDS);
+        ring();
+        _exit(0);
+    }
+    pthread_create(&releasing, NULL, releases_when_it_rings, NULL);
+    RUN(takes_ab, takes_ba);
+    ring();
+    pthread_join(releasing, NULL);
+    kill(other, SIGKILL);
+    waitpid(other, NULL, 0);
+}
+
+/* ---- A timer that runs a function: after many others, or beside them. */
+
+#define CROWD 20 /* more than are watched */
 
 static void release_by_timer(union sigval with) {
     (void)with;
     release();
 }
 
-static void timed(void) {
-    timer_t timer;
+static void make_timer(timer_t *timer) {
     struct sigevent runs = {.sigev_notify = SIGEV_THREAD, .sigev_notify_function = release_by_timer};
-    timer_create(CLOCK_MONOTONIC, &runs, &timer);
+    timer_create(CLOCK_MONOTONIC, &runs, timer);
+}
+
+static void run_timed(timer_t timer) {
     timer_settime(timer, 0, &(struct itimerspec){.it_value.tv_sec = SECONDS}, NULL);
     RUN(takes_ab, takes_ba);
     timer_delete(timer);
 }
 
+static void timed(void) {
+    timer_t timer;
+    make_timer(&timer);
+    for (int i = 0; i < CROWD; i++) {
+        timer_delete(timer);
+        make_timer(&timer);
+    }
+    run_timed(timer);
+}
+
+static void timed_in_crowd(void) {
+    timer_t timers[CROWD];
+    for (int i = 0; i < CROWD; i++)
+        make_timer(&timers[i]);
+    run_timed(timers[CROWD - 1]);
+}
+
+/* ---- A timer by the time in which the process runs, as it does where threads wait for spin locks. */
+
+static pthread_spinlock_t spins[2];
+
+IN_TURN(spins_ab, 0, 2, pthread_spin_lock(&spins[0]); pthread_spin_lock(&spins[1]); pthread_spin_unlock(&spins[1]); pthread_spin_unlock(&spins[0]))
+IN_TURN(spins_ba, 1, 2, pthread_spin_lock(&spins[1]); if (sigsetjmp(out, 1) == 0) pthread_spin_lock(&spins[0]), pthread_spin_unlock(&spins[0]);
+        pthread_spin_unlock(&spins[1]))
+
+static void worked(void) {
+    pthread_spin_init(&spins[0], PTHREAD_PROCESS_PRIVATE);
+    pthread_spin_init(&spins[1], PTHREAD_PROCESS_PRIVATE);
+    signal(SIGVTALRM, jump);
+    setitimer(ITIMER_VIRTUAL, &(struct itimerval){.it_value.tv_sec = SECONDS}, NULL);
+    RUN(spins_ab, spins_ba);
+}
+
 int main(int count, char **words) {
     static const struct row rows[] = {{"early", early}, {"late", late}, {"watched", watched}, {"watched-on", watched_on},
-                                      {"alarmed", alarmed}, {"sent-by-thread", sent_by_thread}, {"sent", sent}, {"killed", killed}, {"timed", timed}};
+                                      {"alarmed", alarmed}, {"sent-by-thread", sent_by_thread}, {"sent", sent}, {"killed", killed}, {"timed", timed},
+                                      {"timed-in-crowd", timed_in_crowd}, {"worked", worked}, {"sent-late", sent_late}, {"cancelled", cancelled},
+                                      {"served", served}, {"robust", robust}, {"woken", woken}};
     return run_row(rows, sizeof rows / sizeof *rows, count > 1 ? words[1] : "");
 }

@@ -7,6 +7,8 @@
 #include <stdbool.h>
 #include <stdio.h>
 #include <string.h>
+#include <sys/mman.h>
+#include <sys/wait.h>
 #include <time.h>
 
 struct row {
@@ -44,6 +46,31 @@ static void run_threads(routine *const *routines, int count) {
         end_turn(number);                                                                                              \
         return with;                                                                                                   \
     }
+
+/* Two processes take two mutexes that they share, in opposite orders. */
+static inline void in_process(pthread_mutex_t *shared, int number) {
+    if (fork() != 0)
+        return;
+    usleep((number + 1) * MICROSECONDS);
+    take(&shared[number], &shared[!number]);
+    _exit(0);
+}
+
+static inline void run_processes(int robustness) {
+    pthread_mutexattr_t attributes;
+    pthread_mutex_t *shared = mmap(NULL, 2 * sizeof *shared, PROT_READ | PROT_WRITE, MAP_SHARED | MAP_ANONYMOUS, -1, 0);
+    pthread_mutexattr_init(&attributes);
+    pthread_mutexattr_setpshared(&attributes, PTHREAD_PROCESS_SHARED);
+    pthread_mutexattr_setrobust(&attributes, robustness);
+    for (int i = 0; i < 2; i++)
+        pthread_mutex_init(&shared[i], &attributes);
+    in_process(shared, 0);
+    if (!getenv("LOCKDEP_PROVOKE_PLAN"))
+        wait(NULL);
+    in_process(shared, 1);
+    while (wait(NULL) > 0)
+        ;
+}
 
 static int run_row(const struct row *rows, size_t count, const char *name) {
     for (size_t i = 0; i < count; i++)

@@ -197,30 +197,7 @@ static void semaphore(void) {
 
 /* ---- Two processes. */
 
-static pthread_mutex_t *shared;
-
-static void in_process(int number) {
-    if (fork() != 0)
-        return;
-    usleep((number + 1) * MICROSECONDS);
-    take(&shared[number], &shared[!number]);
-    _exit(0);
-}
-
-static void processes(void) {
-    pthread_mutexattr_t attributes;
-    shared = mmap(NULL, 2 * sizeof *shared, PROT_READ | PROT_WRITE, MAP_SHARED | MAP_ANONYMOUS, -1, 0);
-    pthread_mutexattr_init(&attributes);
-    pthread_mutexattr_setpshared(&attributes, PTHREAD_PROCESS_SHARED);
-    for (int i = 0; i < 2; i++)
-        pthread_mutex_init(&shared[i], &attributes);
-    in_process(0);
-    if (!getenv("LOCKDEP_PROVOKE_PLAN"))
-        wait(NULL);
-    in_process(1);
-    while (wait(NULL) > 0)
-        ;
-}
+static void processes(void) { run_processes(PTHREAD_MUTEX_STALLED); }
 
 /* ---- Threads of threads. */
 
