@@ -18,10 +18,10 @@ from lockdep.program.events import Event, Held as Holds
 from lockdep.program.schedules import POSSIBLE, Place, Ring, Waiting
 from lockdep.program.verdicts import Judgement, Reason, Verdict
 from lockdep.provoke import course as provoke_course, recorded, runs, standing, system
-from lockdep.provoke.course import History, course_in
+from lockdep.provoke.course import History, Step, course_in
 from lockdep.provoke.ending import ENDING
 from lockdep.provoke.provoke import Ended, heed_signals
-from lockdep.provoke.reasons import KEPT_BACK, LATE, NOT_COME, Tried, turning
+from lockdep.provoke.reasons import KEPT_BACK, LATE, NOT_COME, Tried, Turn, turning
 from lockdep.provoke.recorded import Recorded, Stillness
 from lockdep.provoke.runs import Outcome
 from lockdep.provoke.standing import Doubt, doubts
@@ -110,7 +110,7 @@ class ACourse(unittest.TestCase):
         for verdict, then in ((Verdict.POSSIBLE, Verdict.NOT_SHOWN), (Verdict.BY_JOIN, Verdict.NOT_SHOWN), (Verdict.NOT_KNOWN, Verdict.NOT_KNOWN)):
             one = finding(circle("a/0", "b/0", between=between("locks", circle("a/0", "b/0"))))
             one.judged = Judgement(verdict, ring=RING)
-            turn_off(one, "run 1 turned off at a.c:3")
+            turn_off(one, "in 1 run by the schedule its threads turned off at a.c:3")
             self.assertEqual((one.verdict, one.judged.ring), (then, RING))
             self.assertEqual(one.judged.reason, Reason.TURNED_OFF if then is Verdict.NOT_SHOWN else None)
 
@@ -119,18 +119,27 @@ class TheWays(unittest.TestCase):
     def said(self, ways: Ways, runs: int) -> list[tuple[bool, int]]:
         return [(way.is_scheduled, way.waits) for way in map(ways.next, range(1, runs + 1))]
 
-    def test_the_schedule_comes_first_and_then_each_order_that_is_come_to_once_waits_long(self) -> None:
+    def test_the_schedule_comes_first_and_then_each_order_that_is_seldom_come_to_waits_long(self) -> None:
         ways = Ways(2, True, "", 0)
-        ways.once = {1, 2}
+        ways.waiting = {1, 2}
         self.assertEqual(self.said(ways, 4), [(True, 0), (False, 1), (False, 2), (True, 0)])
-        ways.once = {2}
+        ways.waiting = {2}
         self.assertEqual(self.said(ways, 3), [(True, 0), (False, 0), (False, 2)])
-        ways.is_refuted = True
+        ways.has_turned_off = True
         self.assertEqual(self.said(ways, 3), [(True, 0), (False, 0), (False, 0)])
+
+    def test_pauses_differ(self) -> None:
+        """All orders wait in turn by one pause, and then by another one. Where threads turned off from the schedule, each run has another one."""
+        for is_scheduled, has_turned_off, given, wanted in (
+                (True, False, "", [300, 300, 300, 300, 100, 100, 300, 30, 30, 300]), (False, False, "", [300, 300, 100, 100, 30, 30, 300]),
+                (True, True, "", [300, 30, 100, 300, 300, 30, 300, 100]), (True, True, "40", [40, 40, 40])):
+            ways = Ways(2, is_scheduled, given, 0)
+            ways.has_turned_off = has_turned_off
+            self.assertEqual([ways.next(run).pause for run in range(1, len(wanted) + 1)], wanted)
 
     def test_without_a_schedule(self) -> None:
         ways = Ways(2, False, "", 0)
-        ways.once = {1, 2}
+        ways.waiting = {1, 2}
         self.assertEqual(self.said(ways, 3), [(False, 1), (False, 2), (False, 1)])
 
     def test_pauses_are_shorter_when_they_made_the_program_fail(self) -> None:
@@ -232,7 +241,24 @@ class WhatCameOfIt(unittest.TestCase):
     def test_orders_of_one_place_are_come_to_once_each(self) -> None:
         for lines, reached, once in ((("x", "x"), 2, {1}), (("x", "x"), 3, set()), (("x", "y"), 2, set()), (("x", "y"), 1, {1})):
             tried = Tried([mock.Mock(lines=lambda line=line: [line]) for line in lines], {1: Counts(reached, 0, 0, 0)})
-            self.assertEqual(tried.come_to_once(), once, (lines, reached))
+            self.assertEqual(tried.seldom_come_to(), once, (lines, reached))
+
+    def test_an_order_that_is_over_before_another_one_begins_is_held_long(self) -> None:
+        for first, second, wanted in (((5, 9), (10, 10), {1, 2}), ((5, 10), (10, 10), {2}), ((11, 12), (10, 10), {2}), ((0, 0), (10, 10), {2})):
+            tried, counts = Tried([mock.Mock(lines=lambda line=line: [line]) for line in "xy"]), [Counts(3 * (first[0] > 0), 0, 0, 0, *first), Counts(1, 0, 0, 0, *second)]
+            tried.take(Outcome(), mock.Mock(counts=lambda order: counts[order]))
+            self.assertEqual(tried.seldom_come_to(), wanted, (first, second))
+
+    def test_the_schedule_is_refuted_only_by_each_of_its_runs_and_others(self) -> None:
+        step = Step(1, "t2", "a", "w")
+        off, late = Turn(step, NOT_COME % "task t2"), Turn(step, NOT_COME % "task t2", True)
+        for turns, runs, wanted, words in (([off], 1, False, "in 1 run by"), ([off], 2, True, "in 1 run by"), ([off, off], 4, True, "in each of 2 runs by"),
+                                           ([off, None], 4, False, "in 1 of 2 runs by"), ([late, off], 4, False, "in each of 2 runs by"), ([], 2, False, "")):
+            tried = Tried([], runs=runs)
+            for turn in turns:
+                tried.follow(turn)
+            wanted_words = words and words + " the schedule its threads turned off at a step of task t2: task t2 doesn't come there"
+            self.assertEqual((tried.is_refuted(), tried.turning_words()), (wanted, wanted_words), turns)
 
     def test_what_waited_at_the_limit_is_the_reason(self) -> None:
         self.assertEqual(Tried([], ended=1, waited="thread 1 waited").words(""), "1 run was ended at the limit while thread 1 waited")
@@ -368,6 +394,12 @@ class WhatCouldEndIt(unittest.TestCase):
         handler = [Doubt("1 other process goes on, and may send a signal that has a handler: SIGUSR1", False)]
         for releasing, wanted in ((BY_HOLDER, []), (BY_OTHERS, handler)):
             self.assertEqual(self.found(releasing, 0, WITHOUT_HANDLERS, family=(7,), caught=10), wanted, releasing)
+
+    def test_what_the_recording_says_of_locks_that_are_handed_over(self) -> None:
+        for is_handed_over in (False, True):
+            with tempfile.TemporaryDirectory() as folder:
+                table = Table(os.path.join(folder, "table"), is_handed_over)
+                self.assertEqual(table.last(), dataclasses.replace(last(), is_handed_over=is_handed_over))
 
     def test_what_is_read_of_a_call(self) -> None:
         for added, wanted in ((0, (False, True)), (INTERRUPTIBLE, (True, True)), (WITHOUT_HANDLERS, (False, False))):

@@ -59,7 +59,7 @@ class WhatHappened(OfARecording):
         self.assertEqual(len(read_provoked(self.folder)), 1)
 
     def test_what_happened_once_is_not_forgotten(self):
-        happened, none = entry_of(1, self.found, Happened(2, THREADS)), entry_of_none(1, self.found, "not in 3 runs: ..", "run 1 turned off")
+        happened, none = entry_of(1, self.found, Happened(2, THREADS)), entry_of_none(1, self.found, "not in 3 runs: ..", "in 1 run by the schedule its threads turned off")
         for several, counts in (([none, happened], (4, 1)), ([happened, none], (4, 1)), ([none, none], (6, 0)), ([happened, happened], (2, 2))):
             said = []
             for each in several:

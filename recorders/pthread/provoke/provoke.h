@@ -70,9 +70,9 @@ struct thread {
 };
 
 /* How often the second lock of an order was asked for, how often so with the first one held, how often a thread stood there, and how often a
-   task asked for it that isn't held back, as one of Python's asyncio. */
+   task asked for it that isn't held back, as one of Python's asyncio; and when it was asked for first and last, in milliseconds. */
 struct counts {
-    uint32_t reached, under, pauses, aside;
+    uint32_t reached, under, pauses, aside, first, last;
 };
 
 /* How far a point of the schedule was come to. */
@@ -110,7 +110,7 @@ struct table {
     uint8_t passed[MOST_POINTS + 1];
 };
 
-#define MAGIC "provoke2"
+#define MAGIC "provoke3"
 
 /* Where a thread is: its callers, the innermost first. */
 struct stack {

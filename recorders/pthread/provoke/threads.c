@@ -385,8 +385,12 @@ static uint64_t orders_under_way(const struct asked *asked) {
 }
 
 static void count_reached(uint64_t wants, uint64_t under) {
+    uint32_t when = wants ? (uint32_t)now() : 0;
     for (; wants; wants &= wants - 1) {
         struct counts *counts = &table->counts[__builtin_ctzll(wants)];
+        uint32_t never = 0;
+        __atomic_compare_exchange_n(&counts->first, &never, when, false, __ATOMIC_RELAXED, __ATOMIC_RELAXED);
+        STORE(&counts->last, when);
         ADD(&counts->reached);
         if (under & wants & -wants)
             ADD(&counts->under);

@@ -16,16 +16,17 @@ MOST_THREADS = 1024
 MOST_HELD = 48
 MOST_CALLERS = 16
 CALLERS_OF_HELD = 8
-HEAD, COUNTS = struct.Struct("=8sII"), struct.Struct("=%dI" % (4 * MOST_ORDERS))
+OF_ORDER = 6  # numbers that are counted of each order
+HEAD, COUNTS = struct.Struct("=8sII"), struct.Struct("=%dI" % (OF_ORDER * MOST_ORDERS))
 THREAD, HELD = struct.Struct("=iiIIIIQII%dQIIQII" % MOST_CALLERS), struct.Struct("=QBBHIQ%dQ" % CALLERS_OF_HELD)
 FIELDS, NOBODY = THREAD.unpack(bytes(THREAD.size)), b"\0\0\0\0"
 SIZE_OF_THREAD = THREAD.size + MOST_HELD * HELD.size
 FIRST_THREAD = HEAD.size + COUNTS.size
 TIMER = struct.Struct("=iiQQQ")
 FIRST_TIMER = FIRST_THREAD + MOST_THREADS * SIZE_OF_THREAD
-NANOSECONDS = 1000000000  # of a second
+NANOSECONDS, MILLISECONDS = 1000000000, 1000  # of a second
 MOST_COUNTED = 0xffffffff
-REACHED, UNDER, PAUSES, ASIDE = 0, 1, 2, 3  # what is counted of an order
+REACHED, UNDER, PAUSES, ASIDE, FIRST, LAST = range(OF_ORDER)  # what is counted of an order, and when it was come to first and last
 MOST_PAUSES = 40  # of an order
 
 pread, pwrite = os.pread, os.pwrite  # (a package may put its own into `os`)
@@ -59,9 +60,20 @@ def count(orders, under, what=REACHED):
     with counting:
         for each in [(order, what) for order in orders] + [(order, UNDER) for order in under]:
             fresh[each] = fresh.get(each, 0) + 1
+        now = int(monotonic() * MILLISECONDS) & MOST_COUNTED
+        for order in orders:
+            fresh.setdefault((order, FIRST), now)
+            fresh[order, LAST] = now
         counted += 1
         if counted < FEW or counted % BATCH == 0:
             write_counts()
+
+
+def added(what, before, number):
+    """What the file has when what was counted is added to what it had."""
+    if what in (FIRST, LAST):
+        return before if what == FIRST and before else number
+    return min(before + number, MOST_COUNTED)
 
 
 def write_counts():
@@ -70,7 +82,7 @@ def write_counts():
         fcntl.flock(file, fcntl.LOCK_EX)
         counts = list(COUNTS.unpack(pread(file, COUNTS.size, HEAD.size)))
         for (order, what), number in fresh.items():
-            counts[4 * order + what] = min(counts[4 * order + what] + number, MOST_COUNTED)
+            counts[OF_ORDER * order + what] = added(what, counts[OF_ORDER * order + what], number)
         pwrite(file, COUNTS.pack(*counts), HEAD.size)
         fcntl.flock(file, fcntl.LOCK_UN)  # (a process that was forked meanwhile has the file open too)
         fresh.clear()
@@ -90,7 +102,7 @@ def pauses_before(order):
         with counting:
             fresh[order, PAUSES] = 1
             counts = write_counts()
-            pauses[order] = counts[4 * order + PAUSES] if counts else MOST_PAUSES + 1
+            pauses[order] = counts[OF_ORDER * order + PAUSES] if counts else MOST_PAUSES + 1
         return pauses[order] - 1
     return MOST_PAUSES
 

@@ -26,15 +26,16 @@ LATE = "%s comes there only when %s, which was held back, goes on"
 @dataclass
 class Tried:
     """What the runs for a finding have shown: the most that was counted of each order in one of them, the statuses of the programs, how many were ended at
-    their limit, and where the threads of the first one turned off from the schedule, in words."""
+    their limit, how many followed the schedule, and where threads turned off from it in them."""
 
     plan: list[PlannedOrder]
     counts: dict[int, Counts] = field(default_factory=dict)
     statuses: list[int] = field(default_factory=list)
     ended: int = 0
     waited: str = ""
-    turned_off: str = ""
-    is_refuted: bool = False  # whether where they turned off shows that the schedule can't be followed
+    followed: int = 0
+    turns: list[Turn] = field(default_factory=list)
+    over: set[int] = field(default_factory=set)  # orders to which threads came for the last time before any came to another one
     longest: float = 0.0
     is_watched: bool = True  # whether all its locks are of kinds that are watched
     runs: int = 0
@@ -42,7 +43,9 @@ class Tried:
 
     def take(self, outcome: Outcome, table: Table) -> None:
         self.runs += 1
-        for order, count in counts_of(table, self.plan).items():
+        found = counts_of(table, self.plan)
+        self.over |= {order for order, count in found.items() if count.reached and any(count.last < other.first for other in found.values())}
+        for order, count in found.items():
             before = self.counts.get(order, count)
             self.counts[order] = Counts(*(max(pair) for pair in zip(before, count)))
         self.longest = max(self.longest, outcome.went_on)
@@ -52,10 +55,30 @@ class Tried:
             self.ended += 1
             self.waited = waiting_words(outcome.waiting)
 
-    def come_to_once(self) -> set[int]:
-        """The orders to which a thread came once. Orders of the same places are counted as one."""
+    def seldom_come_to(self) -> set[int]:
+        """The orders at which usual pauses may all be over when threads come to the others: those to which a thread came once, or all did before the others.
+        Orders of the same places are counted as one."""
         places = [planned.lines() for planned in self.plan]
-        return {order for order, count in self.counts.items() if count.reached == places.count(places[order - 1])}
+        return self.over | {order for order, count in self.counts.items() if count.reached == places.count(places[order - 1])}
+
+    def follow(self, turn: Turn | None) -> None:
+        """A run followed the schedule, and its threads perhaps turned off."""
+        self.followed += 1
+        self.turns += [turn] if turn else []
+
+    def is_refuted(self) -> bool:
+        """Whether each run by the schedule turned off, so that it can't be followed as far as is known, and no run by pauses did better."""
+        return 0 < self.followed == len(self.turns) and not any(turn.is_late for turn in self.turns) and self.runs > self.followed
+
+    def turning_words(self) -> str:
+        """Where threads turned off in the runs by the schedule, at the place where most did."""
+        if not self.turns:
+            return ""
+        places = [turning_words(turn) for turn in self.turns]
+        most = max(places, key=places.count)
+        is_each = places.count(most) == self.followed
+        runs = counted(self.followed, "run") if is_each else "%d of %s" % (places.count(most), counted(self.followed, "run"))
+        return "in %s%s by the schedule its threads turned off at %s" % ("each of " if is_each and self.followed > 1 else "", runs, most)
 
     def words(self, against: str) -> str:
         """Why the finding didn't happen, and what the recording says against it."""
@@ -64,8 +87,8 @@ class Tried:
             said.append("%s ended at the limit while %s" % (counted(self.ended, "run was", "runs were"), self.waited))
         if self.longest:
             said.append("threads stood still for %.1f s in one, and went on" % self.longest)
-        if self.turned_off:
-            said.append("possible by locks; " + self.turned_off)
+        if self.turns:
+            said.append("possible by locks; " + self.turning_words())
         if len(said) == self.has_some_failed():
             said.append(why_not(self.counts, self.plan) + ("" if self.is_watched else "; one of its locks may be of a kind that isn't watched"))
         if against:
@@ -186,7 +209,7 @@ def turning(course: Course, last: Last) -> Turn | None:
     return None
 
 
-def turning_words(turn: Turn, run: int) -> str:
-    """Where threads turned off in a run, in words."""
+def turning_words(turn: Turn) -> str:
+    """Where threads turned off in a run, and why."""
     step = turn.step
-    return "run %d turned off at %s: %s" % (run, frames_words(list(step.callers), LAST_CALLERS) or "a step of %s" % thread_of(step.task), turn.why)
+    return "%s: %s" % (frames_words(list(step.callers), LAST_CALLERS) or "a step of %s" % thread_of(step.task), turn.why)

@@ -17,10 +17,10 @@ MOST_THREADS = 1024
 MOST_HELD = 48
 MOST_CALLERS = 16
 CALLERS_OF_HELD = 8
-HEAD, COUNTS = struct.Struct("=8sII"), struct.Struct("=4I")
+HEAD, COUNTS = struct.Struct("=8sII"), struct.Struct("=6I")
 THREAD, HELD = struct.Struct("=iiIIIIQII%dQIIQII" % MOST_CALLERS), struct.Struct("=QBBHIQ%dQ" % CALLERS_OF_HELD)
 TIMER, LAST = struct.Struct("=iiQQQ"), struct.Struct("=%dI2IIiI%dB" % (MOST_ORDERS, MOST_POINTS + 1))
-MAGIC = b"provoke2"
+MAGIC = b"provoke3"
 TEXTS = ".texts"  # behind the name of the file: another one, with a line for each place and name that the program's language has in words
 SIZE_OF_THREAD = THREAD.size + MOST_HELD * HELD.size
 FIRST_THREAD = HEAD.size + MOST_ORDERS * COUNTS.size
@@ -40,13 +40,15 @@ RUNS_FUNCTION, OTHERS = -1, -2  # of a timer that sends no signal, and of those 
 
 
 class Counts(NamedTuple):
-    """Of an order: how often its second lock was asked for, how often so with the first one held, how often a thread stood there, and how often a
-    task asked for it that isn't held back."""
+    """Of an order: how often its second lock was asked for, how often so with the first one held, how often a thread stood there, how often a task asked
+    for it that isn't held back, and when it was asked for first and last, in milliseconds."""
 
     reached: int
     under: int
     pauses: int
     aside: int
+    first: int = 0
+    last: int = 0
 
 
 @dataclass(frozen=True)
@@ -124,14 +126,15 @@ class Last:
 
 
 class Table:
-    """The file of one run."""
+    """The file of one run. Whether threads hand locks over may be known before."""
 
-    def __init__(self, path: str) -> None:
+    def __init__(self, path: str, is_handed_over: bool = False) -> None:
         self.path = path
         with open(path, "wb") as file:
             file.write(HEAD.pack(MAGIC, MOST_ORDERS, MOST_THREADS))
             file.flush()
             os.posix_fallocate(file.fileno(), 0, SIZE)  # a full disk is met here, and not where it is read or written
+            os.pwrite(file.fileno(), LAST.pack(*[0] * (MOST_ORDERS + 2), is_handed_over, *[0] * (MOST_POINTS + 3)), FIRST_OF_LAST)
         with open(path + TEXTS, "wb") as file:
             file.write(MAGIC + b"\n")
         with open(path, "rb") as file:

@@ -16,6 +16,7 @@ from ..base.words import counted
 from ..program.findings import Finding
 from ..places.sources import Sources
 from ..program.verdicts import Reason, Verdict
+from ..record import summary
 from ..record.folder import OF_PROVOKE, SIGNALS, Folder
 from ..say.sentences import Names, title
 from ..record.provoked import Happened, read_provoked, write_provoked
@@ -24,7 +25,7 @@ from .course import Course, course_of, made_histories
 from .holders import Holder
 from .plan import PlannedOrder, foreign_words, is_cycle_of, known_places, plan_of
 from .recorded import Recorded
-from .reasons import Tried, turning, turning_words
+from .reasons import Tried, turning
 from .runs import Outcome, Run, adopt_orphans
 from .standing import DEFAULT_SURE, Standing, going_words, shell_status, status_words
 from .system import text_of_file
@@ -38,6 +39,7 @@ REPEATED = ("--recorder", "--pause", "--while", "--stdin")  # options without wh
 FEW_RUNS = 2  # of a finding that the recording speaks against
 ALSO, SEMAPHORES = "LOCKDEP_ALSO", "sem"  # what names kinds of locks that are watched, too
 MOST_ENDED = 2  # runs for a finding that are ended at their limit
+RELEASES = "unseen-releases"  # what a recording counts where a thread released what another one had taken
 AGAINST = (Reason.ONE_LOCK, Reason.FEWER_THREADS, Reason.NO_RING)  # what the recording says against a finding
 
 Where = FrozenSet[Tuple[Tuple[Place, ...], Tuple[Place, ...]]]  # threads, by where each waits, and where it took what it holds
@@ -80,6 +82,8 @@ class Tries:
         self.beside, self.is_kept, self.dumps = line.last("--while"), line.has("--keep"), line.has("--core")
         self.sure = float(line.last("--sure", str(DEFAULT_SURE)))
         self.room = os.path.join(os.path.realpath(recording), OF_PROVOKE)
+        known = summary.read(recording)
+        self.is_handed_over = bool(known and known.number(RELEASES))
         self.traces: list[str] = []
         self.findings: dict[int, Finding] = {}
         self.plans: dict[int, list[PlannedOrder]] = {}
@@ -153,7 +157,7 @@ class Tries:
             count += 1
             self.tell_run(number, count, most)
             way = ways.next(count)
-            table = Table(os.path.join(self.room, "table-%d-%d" % (number, count)))
+            table = Table(os.path.join(self.room, "table-%d-%d" % (number, count)), self.is_handed_over)
             outcome = self.run(number, count, way, table)
             tried.take(outcome, table)
             last = table.last()
@@ -167,13 +171,12 @@ class Tries:
                 say("run %d for finding %d ended with %s, and the recorded one didn't: pauses are shorter from here on" % (
                     count, number, status_words(outcome.status or 0)))
                 ways.shorten()
-            elif way.is_scheduled and course and not outcome.standing and not tried.turned_off and not self.is_foreign:
-                turn = turning(course, last)
-                tried.turned_off, tried.is_refuted = (turning_words(turn, count), not turn.is_late) if turn else ("", False)
-            ways.once, ways.is_refuted = tried.come_to_once(), bool(tried.turned_off)
+            elif way.is_scheduled and course and not outcome.standing and not self.is_foreign:
+                tried.follow(turning(course, last))
+            ways.waiting, ways.has_turned_off = tried.seldom_come_to(), bool(tried.turns)
         why = "not in %s: %s" % (counted(count, "run"), tried.words(self.spoken_words(self.findings[number])))
         say("finding %d: %s" % (number, why))
-        self.keep(entry_of_none(number, self.findings[number], why, tried.turned_off if tried.is_refuted else ""), count)
+        self.keep(entry_of_none(number, self.findings[number], why, tried.turning_words() if tried.is_refuted() else ""), count)
 
     def tell_run(self, number: int, count: int, most: int) -> None:
         """On a terminal, where somebody waits: which run goes on, and how many findings come after this one."""
@@ -187,7 +190,6 @@ class Tries:
             return ""
         from ..ask.verdict import Recorded as Known
         from ..places.sources import sources_of
-        from ..record import summary
         from ..say.judged import judged_lines
         from ..say.verdict_words import judged_words
         ring = finding.judged.ring if finding.judged else None

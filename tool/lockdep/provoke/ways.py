@@ -5,7 +5,7 @@ from dataclasses import dataclass
 from typing import Iterator
 
 LONG_PAUSE = 10000  # milliseconds for which a thread is held back at a point of the schedule, or at an order that is come to once
-PAUSES = (300, 100, 30)  # milliseconds of a pause, which get shorter where pauses make the program fail
+PAUSES = (300, 100, 30)  # milliseconds of a pause, by turns; they get shorter where pauses make the program fail
 LONGER = 1.5  # how many times as long as the recorded run a thread may be held back
 
 
@@ -28,17 +28,21 @@ class Ways:
         self.given = int(pause or 0)
         self.long = max(LONG_PAUSE, int(LONGER * recorded_seconds * 1000))
         self.shorter = 0  # how often a pause has made the program fail
-        self.is_refuted = False  # whether threads turned off from the schedule: a long pause shows no more than that
-        self.once: set[int] = set()  # orders that a thread came to once in an earlier run
+        self.has_turned_off = False  # whether threads turned off from the schedule: a long pause shows no more than that, and a short one may
+        self.waiting: set[int] = set()  # orders that wait long when their turn comes
 
     def next(self, run: int) -> Way:
         """The first run follows the schedule, and each one after all orders have waited in turn."""
-        turn = (run - 1) % (self.orders + 1) if self.is_scheduled else run
-        waits = 0 if turn == 0 else (turn - 1) % self.orders + 1
-        return Way(turn == 0 and self.is_scheduled, waits if waits in self.once and not self.shorter and not self.is_refuted else 0, self.longest(), self.usual())
+        rounds, place = divmod(run - 1, self.orders + self.is_scheduled)
+        turn = place + 1 - self.is_scheduled  # (0 is that of the schedule)
+        is_long = turn in self.waiting and not self.shorter and not self.has_turned_off
+        length = self.given or (self.by_turns(rounds, turn) if turn else PAUSES[0])
+        return Way(turn == 0, turn if is_long else 0, self.longest(), min(length, PAUSES[min(self.shorter, len(PAUSES) - 1)]) if self.shorter else length)
 
-    def usual(self) -> int:
-        return min([self.given or PAUSES[0], PAUSES[min(self.shorter, len(PAUSES) - 1)]]) if self.shorter else self.given or PAUSES[0]
+    def by_turns(self, rounds: int, turn: int) -> int:
+        """The pause of a run by places after so many rounds. A thread may do something else because another one is held back for long: then each run has
+        another pause, and the shortest one comes first."""
+        return PAUSES[-1 - (rounds * self.orders + turn - 1) % len(PAUSES)] if self.has_turned_off else PAUSES[rounds % len(PAUSES)]
 
     def longest(self) -> int:
         return PAUSES[min(self.shorter, len(PAUSES)) - 1] if self.shorter else self.long

@@ -421,7 +421,7 @@ def verdict_lines(finding: Finding, sources: Sources, recorded: Recorded) -> lis
 def judged_line(finding: Finding, sources: Sources, recorded: Recorded) -> str:
     """The verdict by the recorded steps."""
     (verdict, why), ring = verdict_and_why(finding, recorded), ring_of(finding)
-    if ring and ring.schedule:
+    if ring and ring.schedule and not (finding.judged and finding.judged.reason is Reason.TURNED_OFF):
         return schedule_words(verdict, finding, ring, sources)
     is_apart = finding.judged is not None and finding.judged.verdict is Verdict.APART
     messages = messages_words([each for each in ring.because if each.by == MESSAGE][:MOST_MESSAGES], finding, sources) if ring and is_apart else []

@@ -55,6 +55,20 @@ static void *releases_late(void *with) {
 static void early(void) { RUN(takes_ab, takes_ba, releases_early); }
 static void late(void) { RUN(takes_ab, takes_ba, releases_late); }
 
+/* Threads hand a mutex over, which shows only when it is over. */
+static pthread_mutex_t handed = PTHREAD_MUTEX_INITIALIZER;
+
+static void *takes_what_another_releases(void *with) {
+    pthread_mutex_lock(&handed);
+    return with;
+}
+
+static void hands_over(void) {
+    late();
+    RUN(takes_what_another_releases);
+    pthread_mutex_unlock(&handed);
+}
+
 /* ---- A thread that ends the program. */
 
 static void give_up(void) { _exit(7); }
@@ -314,7 +328,7 @@ static void worked(void) {
 }
 
 int main(int count, char **words) {
-    static const struct row rows[] = {{"early", early}, {"late", late}, {"watched", watched}, {"watched-on", watched_on},
+    static const struct row rows[] = {{"early", early}, {"late", late}, {"hands-over", hands_over}, {"watched", watched}, {"watched-on", watched_on},
                                       {"alarmed", alarmed}, {"sent-by-thread", sent_by_thread}, {"sent", sent}, {"killed", killed}, {"timed", timed},
                                       {"timed-in-crowd", timed_in_crowd}, {"worked", worked}, {"sent-late", sent_late}, {"cancelled", cancelled},
                                       {"served", served}, {"robust", robust}, {"woken", woken}};

@@ -2,8 +2,7 @@
 #include "rows.h"
 
 #include <semaphore.h>
-#include <sys/mman.h>
-#include <sys/wait.h>
+#include <stdatomic.h>
 
 static pthread_mutex_t c = PTHREAD_MUTEX_INITIALIZER, gate = PTHREAD_MUTEX_INITIALIZER;
 
@@ -208,10 +207,38 @@ static void *starts_another(void *with) {
 
 static void nested(void) { RUN(takes_ab, starts_another); }
 
+/* ---- One thread takes its locks only if it sees that the other one doesn't take its own, which it may begin with just then. */
+
+static atomic_int busy;
+
+static void *counts(void *with) {
+    for (int i = 0; i < ROUNDS; i++) {
+        await_turn(2 * i, 2);
+        busy++;
+        take(&b, &a);
+        busy--;
+        end_turn(2 * i);
+    }
+    return with;
+}
+
+static void *takes_ab_if_none(void *with) {
+    for (int i = 0; i < ROUNDS; i++) {
+        await_turn(2 * i + 1, 2);
+        if (!busy)
+            take(&a, &b);
+        end_turn(2 * i + 1);
+    }
+    return with;
+}
+
+static void counted(void) { RUN(counts, takes_ab_if_none); }
+
 int main(int count, char **words) {
     static const struct row rows[] = {
         {"three", three}, {"late", late}, {"ordered", ordered}, {"polling", polling}, {"behind", behind}, {"relock", relock},
         {"join", join}, {"spin", spin}, {"once", once}, {"hung-once", hung_once}, {"semaphore", semaphore}, {"processes", processes}, {"nested", nested},
+        {"counted", counted},
     };
     return run_row(rows, sizeof rows / sizeof *rows, count > 1 ? words[1] : "");
 }

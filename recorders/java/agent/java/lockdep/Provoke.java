@@ -35,7 +35,8 @@ public final class Provoke {
     private static final int MOST_CALLERS = 16;
     private static final int CALLERS_OF_HELD = 8;
     private static final int COUNTS = 16;
-    private static final int FIRST_THREAD = COUNTS + MOST_ORDERS * 16;
+    private static final int OF_ORDER = 24;
+    private static final int FIRST_THREAD = COUNTS + MOST_ORDERS * OF_ORDER;
     private static final int OF_THREAD = 192;
     private static final int OF_HELD = 88;
     private static final int SIZE_OF_THREAD = OF_THREAD + Task.MOST_HELD * OF_HELD;
@@ -50,6 +51,8 @@ public final class Provoke {
     private static final int REACHED = 0;
     private static final int UNDER = 1;
     private static final int PAUSES = 2;
+    /** When it was come to first, in milliseconds, and behind that when it was last. */
+    private static final int FIRST = 4;
 
     /** The limits of provoke/threads.c: milliseconds of all pauses of a process; the pauses of an order. */
     private static final int MOST_PAUSED = 10000;
@@ -228,11 +231,12 @@ public final class Provoke {
         long under = stand.life == null ? 0 : stand.life.orders & wants;
         for (int at = 0; at < stand.depth; at++) under |= stand.held[at].lock.orders & wants;
         count(wants, REACHED);
+        noteTime(wants);
         count(under, UNDER);
         if (stand.depth == 0 && under == 0) return;
         int order = Long.numberOfTrailingZeros(under == 0 ? wants : under);
         stand.order = under == 0 ? 0 : order + 1;
-        int before = (int) Later.WORD.getVolatile((ByteBuffer) table, COUNTS + 16 * order + 4 * PAUSES);
+        int before = (int) Later.WORD.getVolatile((ByteBuffer) table, COUNTS + OF_ORDER * order + 4 * PAUSES);
         if (before >= MOST_PAUSES || paused() >= MOST_PAUSED) return;
         count(1L << order, PAUSES);
         stand.goes = false;
@@ -243,7 +247,16 @@ public final class Provoke {
 
     private void count(long orders, int what) {
         for (long left = orders; left != 0; left &= left - 1) {
-            Later.WORD.getAndAdd((ByteBuffer) table, COUNTS + 16 * Long.numberOfTrailingZeros(left) + 4 * what, 1);
+            Later.WORD.getAndAdd((ByteBuffer) table, COUNTS + OF_ORDER * Long.numberOfTrailingZeros(left) + 4 * what, 1);
+        }
+    }
+
+    private void noteTime(long orders) {
+        int now = (int) (System.nanoTime() / 1000000L);
+        for (long left = orders; left != 0; left &= left - 1) {
+            int first = COUNTS + OF_ORDER * Long.numberOfTrailingZeros(left) + 4 * FIRST;
+            Later.WORD.compareAndSet((ByteBuffer) table, first, 0, now);
+            table.putInt(first + 4, now);
         }
     }
 
