@@ -390,10 +390,10 @@ class WhatCouldEndIt(unittest.TestCase):
         for blocked, reached in ((~never, False), (~never & ~(1 << 10), False), (~never & ~(1 << 9), True), (~never & ~(1 << 33), True)):
             self.assertEqual(bool(self.found(BY_HOLDER, 1, caught=0, blocked=blocked)), reached, blocked)
 
-    def test_a_handler_of_another_thread_may_release_what_not_only_the_holder_can(self) -> None:
+    def test_a_handler_of_another_thread_may_release_what_not_only_the_holder_can_or_interrupt(self) -> None:
         handler = [Doubt("1 other process goes on, and may send a signal that has a handler: SIGUSR1", False)]
-        for releasing, wanted in ((BY_HOLDER, []), (BY_OTHERS, handler)):
-            self.assertEqual(self.found(releasing, 0, WITHOUT_HANDLERS, family=(7,), caught=10), wanted, releasing)
+        for releasing, added, wanted in ((BY_HOLDER, 0, []), (BY_OTHERS, 0, handler), (BY_HOLDER, INTERRUPTIBLE, handler)):
+            self.assertEqual(self.found(releasing, 0, WITHOUT_HANDLERS | added, family=(7,), caught=10), wanted, (releasing, added))
 
     def test_what_the_recording_says_of_locks_that_are_handed_over(self) -> None:
         for is_handed_over in (False, True):

@@ -171,11 +171,12 @@ def goes_on(process: int, standing: set[int]) -> bool:
 
 def handled_in(cycle: list[Thread]) -> list[str]:
     """The signals of which a handler could end it, but for those of faults: one that runs in a thread of the cycle may jump out of the wait or raise an
-    error there, and in any other thread, one may release a lock that not only its holder can."""
+    error there, and in any other thread, one may release a lock that not only its holder can, or interrupt a wait that may be."""
+    is_by_others = not is_by_holders(cycle) or any(thread.is_interruptible for thread in cycle)
     heeded = 0
     for process in {thread.process for thread in cycle}:
         own = [thread.thread for thread in cycle if thread.process == process and thread.runs_handlers]
-        heeded |= heeded_by(process, own if is_by_holders(cycle) else tasks_of(process))
+        heeded |= heeded_by(process, tasks_of(process) if is_by_others else own)
     return [name_of_signal(number) for number in WITH_HANDLERS if heeded >> number - 1 & 1]
 
 
