@@ -49,6 +49,17 @@ class AProgramThatDoesntEnd(unittest.TestCase):
         load.end()
         self.assertEqual(started[0].returncode, -signal.SIGKILL)
 
+    def test_a_program_that_stands_still_has_its_load_beside_it_and_isnt_asked_to_end(self) -> None:
+        load = provoke_load.Load("true", 2)
+        self.addCleanup(load.end)
+        with mock.patch.object(provoke_load, "send") as send:
+            load.step(True, 7, True)
+            load.child.wait()
+            load.step(True, 7, True)
+            self.assertEqual(send.call_count, 0)
+            load.step(True, 7)
+            self.assertEqual(send.call_args.args, (7, signal.SIGTERM))
+
     def test_descendants_are_children_and_what_they_started(self) -> None:
         child = subprocess.Popen([sys.executable, "-c", "import subprocess, sys; subprocess.Popen(['sleep', '99']); print(flush=True); sys.stdin.read()"],
                                  stdin=subprocess.PIPE, stdout=subprocess.PIPE)
