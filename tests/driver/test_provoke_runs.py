@@ -116,17 +116,17 @@ class ACourse(unittest.TestCase):
 
 
 class TheWays(unittest.TestCase):
-    def said(self, ways: Ways, runs: int) -> list[tuple[bool, int]]:
-        return [(way.is_scheduled, way.waits) for way in map(ways.next, range(1, runs + 1))]
+    def said(self, ways: Ways, runs: int) -> list[tuple[bool, set[int]]]:
+        return [(way.is_scheduled, set(way.waits)) for way in map(ways.next, range(1, runs + 1))]
 
-    def test_the_schedule_comes_first_and_then_each_order_that_is_seldom_come_to_waits_long(self) -> None:
+    def test_the_schedule_comes_first_and_then_orders_that_are_seldom_come_to_wait_long(self) -> None:
         ways = Ways(2, True, "", 0)
         ways.waiting = {1, 2}
-        self.assertEqual(self.said(ways, 4), [(True, 0), (False, 1), (False, 2), (True, 0)])
+        self.assertEqual(self.said(ways, 6), [(True, set()), (False, {1, 2}), (False, {1, 2}), (True, set()), (False, {1}), (False, {2})])
         ways.waiting = {2}
-        self.assertEqual(self.said(ways, 3), [(True, 0), (False, 0), (False, 2)])
+        self.assertEqual(self.said(ways, 6)[1:], [(False, {2}), (False, {2}), (True, set()), (False, set()), (False, {2})])
         ways.has_turned_off = True
-        self.assertEqual(self.said(ways, 3), [(True, 0), (False, 0), (False, 0)])
+        self.assertEqual(self.said(ways, 3), [(True, set()), (False, set()), (False, set())])
 
     def test_pauses_differ(self) -> None:
         """All orders wait in turn by one pause, and then by another one. Where threads turned off from the schedule, each run has another one."""
@@ -140,7 +140,7 @@ class TheWays(unittest.TestCase):
     def test_without_a_schedule(self) -> None:
         ways = Ways(2, False, "", 0)
         ways.waiting = {1, 2}
-        self.assertEqual(self.said(ways, 3), [(False, 1), (False, 2), (False, 1)])
+        self.assertEqual(self.said(ways, 4), [(False, {1, 2}), (False, {1, 2}), (False, {1}), (False, {2})])
 
     def test_pauses_are_shorter_when_they_made_the_program_fail(self) -> None:
         ways = Ways(2, True, "", 60)
@@ -259,6 +259,7 @@ class WhatCameOfIt(unittest.TestCase):
                 tried.follow(turn)
             wanted_words = words and words + " the schedule its threads turned off at a step of task t2: task t2 doesn't come there"
             self.assertEqual((tried.is_refuted(), tried.turning_words()), (wanted, wanted_words), turns)
+        self.assertFalse(Tried([], runs=4, followed=1, turns=[off], failed=[3, 3], ended=1).is_refuted())
 
     def test_what_waited_at_the_limit_is_the_reason(self) -> None:
         self.assertEqual(Tried([], ended=1, waited="thread 1 waited").words(""), "1 run was ended at the limit while thread 1 waited")

@@ -67,8 +67,9 @@ class Tried:
         self.turns += [turn] if turn else []
 
     def is_refuted(self) -> bool:
-        """Whether each run by the schedule turned off, so that it can't be followed as far as is known, and no run by pauses did better."""
-        return 0 < self.followed == len(self.turns) and not any(turn.is_late for turn in self.turns) and self.runs > self.followed
+        """Whether each run by the schedule turned off, so that it can't be followed as far as is known, and there were runs by pauses that went as they should."""
+        others = self.runs - self.followed - self.ended - len(self.failed)
+        return 0 < self.followed == len(self.turns) and not any(turn.is_late for turn in self.turns) and others > 0
 
     def turning_words(self) -> str:
         """Where threads turned off in the runs by the schedule, at the place where most did."""

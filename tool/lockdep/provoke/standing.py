@@ -28,8 +28,8 @@ ARMED = {RUNS_FUNCTION: "a timer is armed that runs a function", OTHERS: "there 
 MAY_SET = "may set a handler for a signal, and send that"
 CAUGHT, IGNORED, BLOCKED = b"SigCgt:", b"SigIgn:", b"SigBlk:"  # begin lines of what the system says of a process, and of a thread
 OF_FAULTS = {signal.SIGSEGV, signal.SIGBUS, signal.SIGFPE, signal.SIGILL, signal.SIGTRAP, signal.SIGABRT, signal.SIGSYS}
-UNSENT = {signal.SIGKILL, signal.SIGSTOP, 32, 33}  # signals without handlers, and the C library's own
-WITH_HANDLERS = [number for number in range(1, 65) if number not in OF_FAULTS | UNSENT]
+UNHANDLED = {signal.SIGKILL, signal.SIGSTOP, 32, 33}  # signals without handlers, and the C library's own
+WITH_HANDLERS = [number for number in range(1, 65) if number not in OF_FAULTS | UNHANDLED]
 
 
 @dataclass(frozen=True)

@@ -11,11 +11,11 @@ LONGER = 1.5  # how many times as long as the recorded run a thread may be held 
 
 @dataclass(frozen=True)
 class Way:
-    """How threads are held back in a run: by the schedule, or else by places; at which order the first pause is long, from 1 on, or 0; and the
-    milliseconds of a long pause, and of others."""
+    """How threads are held back in a run: by the schedule, or else by places; at which orders the first pause is long, from 1 on; and the milliseconds of a
+    long pause, and of others."""
 
     is_scheduled: bool
-    waits: int
+    waits: frozenset[int]
     long: int
     pause: int
 
@@ -29,20 +29,32 @@ class Ways:
         self.long = max(LONG_PAUSE, int(LONGER * recorded_seconds * 1000))
         self.shorter = 0  # how often a pause has made the program fail
         self.has_turned_off = False  # whether threads turned off from the schedule: a long pause shows no more than that, and a short one may
-        self.waiting: set[int] = set()  # orders that wait long when their turn comes
+        self.waiting: set[int] = set()  # orders that wait long
 
     def next(self, run: int) -> Way:
-        """The first run follows the schedule, and each one after all orders have waited in turn."""
+        """The first run follows the schedule, and each one after a round of runs by places: of those in which orders wait long all do at once, and in each
+        second round each in its turn."""
         rounds, place = divmod(run - 1, self.orders + self.is_scheduled)
-        turn = place + 1 - self.is_scheduled  # (0 is that of the schedule)
-        is_long = turn in self.waiting and not self.shorter and not self.has_turned_off
-        length = self.given or (self.by_turns(rounds, turn) if turn else PAUSES[0])
-        return Way(turn == 0, turn if is_long else 0, self.longest(), min(length, PAUSES[min(self.shorter, len(PAUSES) - 1)]) if self.shorter else length)
+        turn = place + 1 - self.is_scheduled
+        if turn == 0:
+            return Way(True, frozenset(), self.longest(), self.usual(PAUSES[0]))
+        return Way(False, self.waits(rounds, turn), self.longest(), self.usual(self.by_turns(rounds, turn)))
+
+    def waits(self, rounds: int, turn: int) -> frozenset[int]:
+        """The orders that wait long in a run by places after so many rounds. A thread that is held back may keep others from theirs."""
+        if self.shorter or self.has_turned_off:
+            return frozenset()
+        return frozenset(self.waiting & {turn} if rounds % 2 else self.waiting)
 
     def by_turns(self, rounds: int, turn: int) -> int:
-        """The pause of a run by places after so many rounds. A thread may do something else because another one is held back for long: then each run has
-        another pause, and the shortest one comes first."""
+        """The usual pause in such a run. A thread may do something else because another one is held back for long: then each run has another pause, and the
+        shortest one comes first."""
         return PAUSES[-1 - (rounds * self.orders + turn - 1) % len(PAUSES)] if self.has_turned_off else PAUSES[rounds % len(PAUSES)]
+
+    def usual(self, length: int) -> int:
+        """A pause, unless another one is given, or a shorter one is needed."""
+        length = self.given or length
+        return min(length, PAUSES[min(self.shorter, len(PAUSES) - 1)]) if self.shorter else length
 
     def longest(self) -> int:
         return PAUSES[min(self.shorter, len(PAUSES)) - 1] if self.shorter else self.long
@@ -56,4 +68,4 @@ class Ways:
 def pauses(way: Way, orders: int) -> Iterator[str]:
     """What the plan has behind each order: the first pause at it, if that is another one."""
     for order in range(1, orders + 1):
-        yield "order %d %d" % (order, way.long) if order == way.waits else "order %d" % order
+        yield "order %d %d" % (order, way.long) if order in way.waits else "order %d" % order
