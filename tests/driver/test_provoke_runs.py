@@ -243,6 +243,14 @@ class WhatCameOfIt(unittest.TestCase):
             tried = Tried([mock.Mock(lines=lambda line=line: [line]) for line in lines], {1: Counts(reached, 0, 0, 0)})
             self.assertEqual(tried.seldom_come_to(), once, (lines, reached))
 
+    def test_who_went_on_once_may_do_so_again(self) -> None:
+        tried, table = Tried([]), mock.Mock(spec=Table)
+        tried.take(Outcome(), table)
+        self.assertEqual(tried.doubts(), [])
+        for went_on in (2.8, 0.3):
+            tried.take(Outcome(went_on=went_on), table)
+            self.assertEqual(tried.doubts(), [Doubt("threads had stood still for 2.8 s before, and gone on", False)])
+
     def test_an_order_that_is_over_before_another_one_begins_is_held_long(self) -> None:
         for first, second, wanted in (((5, 9), (10, 10), {1, 2}), ((5, 10), (10, 10), {2}), ((11, 12), (10, 10), {2}), ((0, 0), (10, 10), {2})):
             tried, counts = Tried([mock.Mock(lines=lambda line=line: [line]) for line in "xy"]), [Counts(3 * (first[0] > 0), 0, 0, 0, *first), Counts(1, 0, 0, 0, *second)]

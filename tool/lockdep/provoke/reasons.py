@@ -10,7 +10,7 @@ from ..record.threads import thread_of
 from .course import Course, Step
 from .plan import PlannedOrder
 from .runs import Outcome
-from .standing import Waiting, shown_places, status_words
+from .standing import Doubt, Waiting, shown_places, status_words
 from .table import ASKED, MOST_ORDERS, Counts, Last, Place, Table
 
 TYPE_CHECKING = False
@@ -80,6 +80,10 @@ class Tried:
         is_each = places.count(most) == self.followed
         runs = counted(self.followed, "run") if is_each else "%d of %s" % (places.count(most), counted(self.followed, "run"))
         return "in %s%s by the schedule its threads turned off at %s" % ("each of " if is_each and self.followed > 1 else "", runs, most)
+
+    def doubts(self) -> list[Doubt]:
+        """What the runs have shown that could end a standstill, though nobody knows what it was."""
+        return [Doubt("threads had stood still for %.1f s before, and gone on" % self.longest, False)] if self.longest else []
 
     def words(self, against: str) -> str:
         """Why the finding didn't happen, and what the recording says against it."""

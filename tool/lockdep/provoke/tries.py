@@ -160,6 +160,7 @@ class Tries:
             table = Table(os.path.join(self.room, "table-%d-%d" % (number, count)), self.is_handed_over)
             outcome = self.run(number, count, way, table)
             tried.take(outcome, table)
+            outcome.doubts += tried.doubts()
             last = table.last()
             table.remove()
             if outcome.standing and self.take(number, count, outcome, last.sent):

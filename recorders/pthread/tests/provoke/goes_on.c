@@ -55,6 +55,19 @@ static void *releases_late(void *with) {
 static void early(void) { RUN(takes_ab, takes_ba, releases_early); }
 static void late(void) { RUN(takes_ab, takes_ba, releases_late); }
 
+/* The file is there from the first time on. */
+static void release_once(void) {
+    fclose(fopen("released", "w"));
+    release();
+}
+
+static void *releases_once(void *with) {
+    look_on(access("released", F_OK) == 0 ? LATE : EARLY, release_once);
+    return with;
+}
+
+static void early_once(void) { RUN(takes_ab, takes_ba, releases_once); }
+
 /* Threads hand a mutex over, which shows only when it is over. */
 static pthread_mutex_t handed = PTHREAD_MUTEX_INITIALIZER;
 
@@ -328,7 +341,7 @@ static void worked(void) {
 }
 
 int main(int count, char **words) {
-    static const struct row rows[] = {{"early", early}, {"late", late}, {"hands-over", hands_over}, {"watched", watched}, {"watched-on", watched_on},
+    static const struct row rows[] = {{"early", early}, {"late", late}, {"early-once", early_once}, {"hands-over", hands_over}, {"watched", watched}, {"watched-on", watched_on},
                                       {"alarmed", alarmed}, {"sent-by-thread", sent_by_thread}, {"sent", sent}, {"killed", killed}, {"timed", timed},
                                       {"timed-in-crowd", timed_in_crowd}, {"worked", worked}, {"sent-late", sent_late}, {"cancelled", cancelled},
                                       {"served", served}, {"robust", robust}, {"woken", woken}};
