@@ -257,6 +257,12 @@ class WhatCameOfIt(unittest.TestCase):
             tried.take(Outcome(), mock.Mock(counts=lambda order: counts[order]))
             self.assertEqual(tried.seldom_come_to(), wanted, (first, second))
 
+    def test_orders_of_one_place_to_which_threads_come_late(self) -> None:
+        for first, last_time, wanted in ((5, 305, set()), (5, 306, {1})):
+            tried, counts = Tried([mock.Mock(lines=lambda: ["x"])] * 2), Counts(4, 0, 0, 0, first, last_time)
+            tried.take(Outcome(), mock.Mock(counts=lambda order: counts))
+            self.assertEqual(tried.seldom_come_to(), wanted)
+
     def test_the_schedule_is_refuted_only_by_each_of_its_runs_and_others(self) -> None:
         step = Step(1, "t2", "a", "w")
         off, late = Turn(step, NOT_COME % "task t2"), Turn(step, NOT_COME % "task t2", True)

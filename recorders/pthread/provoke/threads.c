@@ -287,11 +287,11 @@ static bool leads_back(struct thread *from, bool *seen) {
 
 /* ---- Standing. */
 
-/* The first pause at an order may be another one. */
-static long pause_length(unsigned order, uint32_t pauses) {
+/* The first pause at an order may be another one; of several orders of one place so many. */
+static long pause_length(uint64_t orders, uint32_t pauses) {
     const char *given = getenv("LOCKDEP_PROVOKE_PAUSE");
-    long length = given ? atol(given) : 0, first = first_pause_at(order);
-    return pauses == 0 && first ? first : length >> (pauses / PAUSES_OF_ONE_LENGTH);
+    long length = given ? atol(given) : 0, first = first_pause_at((unsigned)__builtin_ctzll(orders));
+    return pauses < (uint32_t)__builtin_popcountll(orders) && first ? first : length >> (pauses / PAUSES_OF_ONE_LENGTH);
 }
 
 static void sleep_shortly(void) {
@@ -402,9 +402,10 @@ static void count_reached(uint64_t wants, uint64_t under) {
 static void consider(const struct asked *asked, uint64_t under) {
     if (holds_nothing() || (asked->stack.is_in_handler && !(under & orders_by_signals())))
         return;
-    unsigned order = (unsigned)__builtin_ctzll(under ? under : asked->fits.wants);
+    uint64_t orders = under ? under : asked->fits.wants;
+    unsigned order = (unsigned)__builtin_ctzll(orders);
     struct counts *counts = &table->counts[order];
-    long length = pause_length(order, LOAD(&counts->pauses));
+    long length = pause_length(orders, LOAD(&counts->pauses));
     if (LOAD(&counts->pauses) >= MOST_PAUSES || LOAD(&paused) >= MOST_PAUSED)
         return;
     ADD(&counts->pauses);

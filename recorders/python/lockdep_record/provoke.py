@@ -288,11 +288,12 @@ def hold(thread, lock, wants, frame):
     count(orders_in(wants), under)
     if not under and all(held.lock.is_life for held in thread.held) or is_in_handler(frame):
         return
-    order = (under or orders_in(wants))[0]
+    orders = under or orders_in(wants)
+    order = orders[0]
     thread.order, thread.goes = order + 1 if under else 0, False
     before = pauses_before(order) if paused < MOST_PAUSED else MOST_PAUSES
     if before < MOST_PAUSES:
-        first = first_pauses.get(order) if before == 0 else None
+        first = first_pauses.get(order) if before < len(orders) else None  # (of several orders of one place so many are)
         stand(thread, lock, stack_of(frame, MOST_CALLERS), first or first_pause >> before // PAUSES_OF_ONE_LENGTH)
 
 

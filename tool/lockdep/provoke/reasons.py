@@ -12,6 +12,7 @@ from .plan import PlannedOrder
 from .runs import Outcome
 from .standing import Doubt, Waiting, shown_places, status_words
 from .table import ASKED, MOST_ORDERS, Counts, Last, Place, Table
+from .ways import PAUSES
 
 TYPE_CHECKING = False
 if TYPE_CHECKING:
@@ -35,7 +36,7 @@ class Tried:
     waited: str = ""
     followed: int = 0
     turns: list[Turn] = field(default_factory=list)
-    over: set[int] = field(default_factory=set)  # orders to which threads came for the last time before any came to another one
+    over: set[int] = field(default_factory=set)  # orders at which all pauses may be over before a thread comes to the others
     longest: float = 0.0
     is_watched: bool = True  # whether all its locks are of kinds that are watched
     runs: int = 0
@@ -44,7 +45,7 @@ class Tried:
     def take(self, outcome: Outcome, table: Table) -> None:
         self.runs += 1
         found = counts_of(table, self.plan)
-        self.over |= {order for order, count in found.items() if count.reached and any(count.last < other.first for other in found.values())}
+        self.over |= {order for order in found if found[order].reached and self.is_over_early(order, found)}
         for order, count in found.items():
             before = self.counts.get(order, count)
             self.counts[order] = Counts(*(max(pair) for pair in zip(before, count)))
@@ -55,11 +56,20 @@ class Tried:
             self.ended += 1
             self.waited = waiting_words(outcome.waiting)
 
+    def is_over_early(self, order: int, found: dict[int, Counts]) -> bool:
+        """Whether threads came to an order for the last time before any came to another one. Those of the same places are counted as one: then it is enough
+        that threads came to them at times longer apart than a pause."""
+        own = found[order]
+        return any(own.last < other.first for other in found.values()) or (self.alike(order) > 1 and own.last - own.first > PAUSES[0])
+
     def seldom_come_to(self) -> set[int]:
-        """The orders at which usual pauses may all be over when threads come to the others: those to which a thread came once, or all did before the others.
-        Orders of the same places are counted as one."""
+        """The orders at which all pauses may be over when threads come to the others, also because one came to them once."""
+        return self.over | {order for order, count in self.counts.items() if count.reached == self.alike(order)}
+
+    def alike(self, order: int) -> int:
+        """How many orders have the same places as this one."""
         places = [planned.lines() for planned in self.plan]
-        return self.over | {order for order, count in self.counts.items() if count.reached == places.count(places[order - 1])}
+        return places.count(places[order - 1])
 
     def follow(self, turn: Turn | None) -> None:
         """A run followed the schedule, and its threads perhaps turned off."""

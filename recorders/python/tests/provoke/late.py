@@ -1,4 +1,6 @@
-"""Two locks in opposite orders, of which one is come to several times, and the other one when a pause at that is over."""
+"""Two locks in opposite orders, of which one is come to several times, and the other one when a pause at that is over; with `alike`, both on the
+same lines."""
+import sys
 import threading
 
 import pairs
@@ -7,6 +9,12 @@ from pairs import run_apart
 pairs.APART = 1.5  # seconds
 rows = threading.Lock()
 index = threading.Lock()
+
+
+def take(outer, inner):
+    with outer:
+        with inner:
+            pass
 
 
 def insert():
@@ -21,4 +29,13 @@ def rebuild():
         pass
 
 
-run_apart(insert, rebuild)
+def insert_alike():
+    for _ in range(3):
+        take(rows, index)
+
+
+def rebuild_alike():
+    take(index, rows)
+
+
+run_apart(*((insert_alike, rebuild_alike) if sys.argv[1:] == ["alike"] else (insert, rebuild)))

@@ -234,14 +234,16 @@ public final class Provoke {
         noteTime(wants);
         count(under, UNDER);
         if (stand.depth == 0 && under == 0) return;
-        int order = Long.numberOfTrailingZeros(under == 0 ? wants : under);
+        long orders = under == 0 ? wants : under;
+        int order = Long.numberOfTrailingZeros(orders);
         stand.order = under == 0 ? 0 : order + 1;
         int before = (int) Later.WORD.getVolatile((ByteBuffer) table, COUNTS + OF_ORDER * order + 4 * PAUSES);
         if (before >= MOST_PAUSES || paused() >= MOST_PAUSED) return;
         count(1L << order, PAUSES);
         stand.goes = false;
         change(stand, STANDS);
-        int length = before == 0 && firsts[order] != 0 ? firsts[order] : pause >> before / PAUSES_OF_ONE_LENGTH;
+        boolean isFirst = before < Long.bitCount(orders); // of several orders of one place so many are
+        int length = isFirst && firsts[order] != 0 ? firsts[order] : pause >> before / PAUSES_OF_ONE_LENGTH;
         stand(stand, length);
     }
 
