@@ -106,7 +106,7 @@ def why_not_by_signal(finding: Finding) -> str:
         return ""
     if any(order.signal for order in finding.orders):
         return "it needs two signals at once, and only one is sent at a time"
-    if handler.sent_to == THREADS:
+    if handler.sent_to == THREADS and not handler.is_alone:
         return "%s was only sent to certain threads, and which threads these are in another run isn't known" % handler.signal
     if handler.offset is None and handler.file:
         return "no signals are sent to programs in Python"

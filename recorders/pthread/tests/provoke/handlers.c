@@ -1,7 +1,7 @@
 /* Signal handlers. That of SIGUSR1 takes table, which its thread may hold. If a file is there, whose name comes second, SIGUSR1 is blocked with
-   `blocked` before table is taken, and with `replaced` it has another handler by then, which takes nothing. With `thread` SIGUSR1 is sent to a
-   thread alone. With `unblocks` it is unblocked with table held, and with `by-itself` only in its own handler. With `recursive` table knows its owner.
-   With `readers` both take a lock as readers, behind a writer that waits. With `inversion` the handler of SIGUSR2
+   `blocked` before table is taken, and with `replaced` it has another handler by then, which takes nothing. With `thread` SIGUSR1 is sent to the only
+   thread, and with `threads` to one of two. With `unblocks` it is unblocked with table held, and with `by-itself` only in its own handler. With
+   `recursive` table knows its owner. With `readers` both take a lock as readers, behind a writer that waits. With `inversion` the handler of SIGUSR2
    takes stats: a second thread holds stats and waits for pool, and the first one holds pool where SIGUSR2 comes in. */
 #define _GNU_SOURCE
 #include <pthread.h>
@@ -123,7 +123,13 @@ int main(int argc, char **argv) {
         table = (pthread_mutex_t)PTHREAD_RECURSIVE_MUTEX_INITIALIZER_NP;
     bool is_by_itself = strcmp(how, "by-itself") == 0;
     signal(SIGUSR1, is_by_itself ? reload_unblocked : reload);
-    if (strcmp(how, "thread") == 0)
+    pthread_t other;
+    bool is_one_of_two = strcmp(how, "threads") == 0;
+    if (is_one_of_two) {
+        pthread_create(&other, NULL, sums, NULL);
+        pthread_join(other, NULL);
+    }
+    if (is_one_of_two || strcmp(how, "thread") == 0)
         raise(SIGUSR1);
     else
         kill(getpid(), SIGUSR1);
