@@ -12,6 +12,7 @@ from .log import close_file, open_file, write_bytes
 
 # The sizes of provoke.h.
 MOST_ORDERS = 64
+MOST_TIMERS = 16
 MOST_THREADS = 1024
 MOST_HELD = 48
 MOST_CALLERS = 16
@@ -22,7 +23,8 @@ THREAD, HELD = struct.Struct("=iiIIIIQII%dQIIQII" % MOST_CALLERS), struct.Struct
 FIELDS, NOBODY = THREAD.unpack(bytes(THREAD.size)), b"\0\0\0\0"
 SIZE_OF_THREAD = THREAD.size + MOST_HELD * HELD.size
 FIRST_THREAD = HEAD.size + COUNTS.size
-TIMER = struct.Struct("=iiQQQ")
+TIMER, PROCESS = struct.Struct("=iiQQQ"), struct.Struct("=i")
+OTHERS, MOST_NANOSECONDS = -2, 2**64 - 1  # of timers for which there is no row, which may be armed
 FIRST_TIMER = FIRST_THREAD + MOST_THREADS * SIZE_OF_THREAD
 NANOSECONDS, MILLISECONDS = 1000000000, 1000  # of a second
 MOST_COUNTED = 0xffffffff
@@ -147,11 +149,21 @@ def put_timer(left, again):
     if left or is_armed:
         is_armed = left > 0
         at = int((monotonic() + left) * NANOSECONDS) if left else 0
-        accessed(table, os.O_WRONLY, lambda file: pwrite(file, TIMER.pack(os.getpid(), SIGALRM, at, int(again * NANOSECONDS), 1), FIRST_TIMER))
+        own = os.getpid()
+
+        def put(file):
+            fcntl.flock(file, fcntl.LOCK_EX)
+            owners = [PROCESS.unpack(pread(file, PROCESS.size, FIRST_TIMER + row * TIMER.size))[0] for row in range(MOST_TIMERS)]
+            row = next((row for wanted in (own, 0) for row, owner in enumerate(owners) if owner == wanted), None)
+            raw = TIMER.pack(own, SIGALRM, at, int(again * NANOSECONDS), 1) if row is not None else TIMER.pack(own, OTHERS, MOST_NANOSECONDS, 0, 0)
+            pwrite(file, raw, FIRST_TIMER + (MOST_TIMERS - 1 if row is None else row) * TIMER.size)
+            fcntl.flock(file, fcntl.LOCK_UN)
+        accessed(table, os.O_RDWR, put)
 
 
 def begin_in_child():
-    """A forked process has counted nothing yet."""
-    global counting
+    """A forked process has counted nothing yet, and no timer."""
+    global counting, is_armed
+    is_armed = False
     counting = allocate_lock()
     fresh.clear()

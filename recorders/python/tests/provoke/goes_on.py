@@ -56,10 +56,25 @@ def give_up(number, frame):
     raise TimeoutError
 
 
-def alarmed():
+def start_child():
+    """A child, with a timer of its own, waits for a lock when its parent stands still by now."""
+    child = os.fork()
+    if child == 0:
+        lock = threading.Lock()
+        signal.alarm(SECONDS)
+        time.sleep(1)
+        lock.acquire()
+        threading.Timer(0.1, lock.release).start()
+        lock.acquire()
+        os._exit(0)
+    return child
+
+
+def alarmed(is_forked):
     """The main thread waits, until the handler of an alarm raises an error."""
     signal.signal(signal.SIGALRM, give_up)
     signal.alarm(SECONDS)
+    child = start_child() if is_forked else 0
     other = threading.Thread(target=lambda: (wait_until(lambda: over, 0.1), take(second, first)))
     other.start()
     try:
@@ -68,6 +83,8 @@ def alarmed():
         print("gave up")
     other.join()
     signal.alarm(0)
+    if child:
+        os.waitpid(child, 0)
     print("done")
 
 
@@ -81,4 +98,4 @@ elif sys.argv[1] == "end":
 elif sys.argv[1] == "interrupt":
     interrupted()
 else:
-    alarmed()
+    alarmed(sys.argv[1] == "forked")
