@@ -249,7 +249,7 @@ class WhatCameOfIt(unittest.TestCase):
         self.assertEqual(tried.doubts(), [])
         for went_on in (2.8, 0.3):
             tried.take(Outcome(went_on=went_on), table)
-            self.assertEqual(tried.doubts(), [Doubt("threads had stood still for 2.8 s before, and gone on", False)])
+            self.assertEqual(tried.doubts(), [Doubt("threads had stood still for 2.8 s in an earlier run, and gone on", False)])
 
     def test_an_order_that_is_over_before_another_one_begins_is_held_long(self) -> None:
         for first, second, wanted in (((5, 9), (10, 10), {1, 2}), ((5, 10), (10, 10), {2}), ((11, 12), (10, 10), {2}), ((0, 0), (10, 10), {2})):

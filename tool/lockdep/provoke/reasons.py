@@ -92,8 +92,8 @@ class Tried:
         return "in %s%s by the schedule its threads turned off at %s" % ("each of " if is_each and self.followed > 1 else "", runs, most)
 
     def doubts(self) -> list[Doubt]:
-        """What the runs have shown that could end a standstill, though nobody knows what it was."""
-        return [Doubt("threads had stood still for %.1f s before, and gone on" % self.longest, False)] if self.longest else []
+        """What earlier runs have shown that could end a standstill, though nobody knows what it was."""
+        return [Doubt("threads had stood still for %.1f s in an earlier run, and gone on" % self.longest, False)] if self.longest else []
 
     def words(self, against: str) -> str:
         """Why the finding didn't happen, and what the recording says against it."""

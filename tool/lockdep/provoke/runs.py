@@ -71,7 +71,7 @@ class Run:
         while time.monotonic() < end or watch.still:
             if watch.look():
                 return Outcome(process=watch.cycle[0].process, standing=watch.standing, doubts=watch.doubts, going=watch.going,
-                               stood=watch.stood, builds=builds_of(watch.cycle[0], watch.standing), went_on=watch.longest)
+                               stood=watch.stood, builds=builds_of(watch.cycle[0], watch.standing))
             if self.child.poll() is not None and not self.is_something_left():
                 return self.ended(watch, self.child.returncode)
             self.load.step(bool(self.table.threads()), self.child.pid, bool(watch.cycle))
