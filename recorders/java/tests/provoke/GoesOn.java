@@ -104,6 +104,31 @@ final class GoesOn {
         }
     }
 
+    /** Waits as neither an interrupt nor another thread could end it. */
+    static void take(ReentrantLock outer, ReentrantLock inner) {
+        waiting = Thread.currentThread();
+        outer.lock();
+        try {
+            inner.lock();
+            inner.unlock();
+        } finally {
+            outer.unlock();
+            over++;
+        }
+    }
+
+    /** A class that is there only where a thread may be stopped. */
+    private static final class Stopping {
+        static Runnable prepare() {
+            return Stopping::stop;
+        }
+
+        @SuppressWarnings({"deprecation", "removal"})
+        static void stop() {
+            waiting.stop();
+        }
+    }
+
     static void end(String way) {
         if (way.equals("release")) other.tryUnlockWrite();
         else if (way.equals("halt")) Runtime.getRuntime().halt(7);
@@ -121,12 +146,14 @@ final class GoesOn {
     public static void main(String[] words) throws IOException, InterruptedException {
         String way = words[0];
         if (way.equals("crowd")) startCrowd();
+        Runnable stop = way.equals("stop") ? Stopping.prepare() : null;
         ThreadGroup beside = new ThreadGroup(Thread.currentThread().getThreadGroup().getParent(), "beside");
-        Thread watch = new Thread(way.equals("interrupt") ? beside : null, () -> lookOn(() -> end(way)));
+        Thread watch = new Thread(way.equals("interrupt") ? beside : null, () -> lookOn(stop != null ? stop : () -> end(way)));
         watch.setDaemon(way.equals("halt"));
         if (!way.equals("exit")) watch.start();
         if (way.equals("interrupt") || way.equals("crowd")) Apart.run(GoesOn::forwards, GoesOn::backwards);
         else if (way.equals("exit")) runBeside();
+        else if (way.equals("stop")) Apart.run(() -> take(first, second), () -> take(second, first));
         else if (way.equals("join")) join();
         else if (way.equals("halt")) Apart.run(() -> enterLater(accounts, journal), () -> enterLater(journal, accounts));
         else Apart.run(() -> take(one, other), () -> take(other, one));

@@ -80,6 +80,8 @@ public final class Provoke {
     }
 
     private static Provoke it;
+    /** Whether the program may stop a thread, which ends each wait but that for a monitor. */
+    private static volatile boolean mayStop;
 
     /** The orders of a place: a bit for each whose first lock is taken there, or whose second one is asked for. */
     static final class Fits {
@@ -171,6 +173,11 @@ public final class Provoke {
 
     public static boolean isOn() {
         return it != null;
+    }
+
+    /** A class of the program's may stop a thread. */
+    public static void noteStop() {
+        mayStop = true;
     }
 
     // ---- What tasks call.
@@ -344,7 +351,8 @@ public final class Provoke {
         for (int at = 0; at < stand.stack.length; at++) table.putLong(place + 40 + 8 * at, stand.stack[at]);
         table.putInt(place + 172, (int) stand.name);
         int join = stand.awaited.isLife() ? IN_JOIN | INTERRUPTIBLE : 0;
-        table.putInt(place + 184, WITHOUT_HANDLERS | join | (stand.isInterruptible ? INTERRUPTIBLE : 0));
+        boolean isInterruptible = stand.isInterruptible || mayStop && !stand.awaited.isMonitor;
+        table.putInt(place + 184, WITHOUT_HANDLERS | join | (isInterruptible ? INTERRUPTIBLE : 0));
         for (int at = 0; at < stand.depth; at++) {
             Held held = stand.held[at];
             write(held.lock, held.isReader(), held.stack, place + OF_THREAD + at * OF_HELD);

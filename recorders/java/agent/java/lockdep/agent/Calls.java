@@ -70,6 +70,7 @@ final class Calls {
     private static final Set<String> STAYING = Set.of("lock()V", "unlock()V", "tryLock()Z", MAKER, "start()V");
     private static final Words STARTERS = new Words(Set.of("java/lang/Runtime", PROCESS_BUILDER));
     private static final Words COLLECTIONS = new Words(Set.of("java/util/Collections"));
+    private static final Words STOPS = new Words(Set.of("stop"));
     private static final Set<String> SIGNATURES =
             new HashSet<>(Set.of(MAKER, JOIN_FOR, MAKES_AND_STARTS, STARTS_VIRTUAL, STARTS_PROCESS));
     /** The names of all calls that are rewritten. */
@@ -108,6 +109,11 @@ final class Calls {
         int name = type.part(type.part(method, 3), 1);
         if (COLLECTIONS.has(type, owner)) return type.text(name).startsWith("synchronized");
         return NAMES.has(type, name) && (STARTERS.has(type, owner) || isReplaced(type, method));
+    }
+
+    /** Whether a method of a class's constants is the one that stops a thread. */
+    static boolean isStop(ClassFile type, int method) {
+        return STOPS.has(type, type.part(type.part(method, 3), 1)) && type.owner(method).equals(THREAD);
     }
 
     private static boolean isReplaced(ClassFile type, int method) {

@@ -1,5 +1,6 @@
 package java.lockdep.agent;
 
+import java.lockdep.Provoke;
 import java.util.Map;
 import java.util.Set;
 
@@ -48,6 +49,7 @@ final class Wanted {
         boolean hasReference = false;
         for (int each = 1; each < constants.length; each++) {
             constants[each] = mayMatter(each);
+            if (type.kind(each) == ClassFile.METHOD && Calls.isStop(type, each)) Provoke.noteStop();
             hasReference |= type.kind(each) == ClassFile.HANDLE && Calls.mayBeReference(type, each);
         }
         if (hasReference) addDynamicCalls();
