@@ -309,11 +309,11 @@ static void run_timed(timer_t timer) {
 
 static void timed(void) {
     timer_t timer;
-    make_timer(&timer);
     for (int i = 0; i < CROWD; i++) {
+        timer_create(CLOCK_MONOTONIC, &(struct sigevent){.sigev_notify = SIGEV_SIGNAL, .sigev_signo = SIGUSR2}, &timer);
         timer_delete(timer);
-        make_timer(&timer);
     }
+    make_timer(&timer);
     run_timed(timer);
 }
 
