@@ -248,6 +248,8 @@ class Logs(Room):
     def test_names_of_go(self):
         of_place = hashlib.sha256(b"main.f:5").hexdigest()[:8]
         for name, made, wanted in (("main.pool.mu", "main.f:5", "main.pool.mu@" + of_place), ("", "main.f:5", "main.f:5"), ("main.table", "", "main.table"),
+                                   ("main.C[go.shape.string_0,go.shape.[]main.T_0_1].mu", "", "main.C[string;[]main.T_0].mu"),
+                                   ("main.C[go.shape.[]main.T_1,go.shape.*uint8].mu", "", "main.C[[]main.T_1;*uint8].mu"),
                                    ('a@b#c,d"e f', "", "a%40b%23c;d'e_f"), ("", "", "unknown"),
                                    ("x.y/" + 40 * "z" + ".mu", "", 32 * "z" + ".mu%" + hashlib.sha256(("x.y/" + 40 * "z" + ".mu").encode()).hexdigest()[:8])):
             self.assertEqual(class_names.of_go(log.Told(name, "", "made in", made)), wanted)

@@ -2,6 +2,7 @@
 from __future__ import annotations
 
 import os
+import re
 from binascii import crc32
 
 from . import packages
@@ -195,9 +196,16 @@ def sum_of(text: str) -> int:
 # ---- Names of Go: of a type and member with where it is made, of a global, or where it is made.
 
 def of_go(told: Told) -> str:
-    if told.name and told.made:
-        return "%s@%s" % (shortened(told.name), hash_of(told.made))
-    return shortened(told.name or told.made)
+    name = unshaped(told.name)
+    if name and told.made:
+        return "%s@%s" % (shortened(name), hash_of(told.made))
+    return shortened(name or told.made)
+
+
+def unshaped(name: str) -> str:
+    """A name in which the arguments of a generic type are those of the source. The compiler's have a prefix, and up to Go 1.19 their number behind them."""
+    first, *arguments = name.split("go.shape.")
+    return first + "".join(re.sub(r"_%d(?=,$|][^]]*$)" % number, "", each) for number, each in enumerate(arguments))
 
 
 def shortened(text: str) -> str:
