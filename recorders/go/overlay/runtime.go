@@ -24,13 +24,16 @@ var (
 	lockdepSiteSlot [lockdepSites]*lockdepSite
 	lockdepSiteList [1 << 12]*[1 << 12]*lockdepSite // by number
 	lockdepNumber   uint32
+	lockdepRaw      func(size uintptr, typ *_type, needzero bool) unsafe.Pointer // lockdepMallocgc, which names tables of functions that call this
 )
 
 // ---- Callers, by the frame pointers that Go keeps on amd64.
 
 type lockdepCallers [lockdepFrames]uintptr
 
-// Fills in the callers above a frame: the return addresses, innermost first. What is left over is 0.
+// Fills in the callers above a frame: the return addresses, innermost first. What is left over is 0. (Nothing may move the stack meanwhile.)
+//
+//go:nosplit
 func lockdepWalk(frame uintptr, callers *lockdepCallers) {
 	stack := getg().stack
 	n := 0
@@ -151,17 +154,15 @@ func lockdepSiteOf(typ *lockdepType, callers *lockdepCallers) *lockdepSite {
 	return site
 }
 
-// Notes an object that was just made, with the callers above a frame.
-func lockdepNote(object unsafe.Pointer, typ *lockdepType, frame uintptr) {
+// Notes an object that was just made, with the callers.
+func lockdepNote(object unsafe.Pointer, typ *lockdepType, callers *lockdepCallers) {
 	base, _, _ := findObject(uintptr(object), 0, 0)
 	if base == 0 {
 		return
 	}
-	var callers lockdepCallers
-	lockdepWalk(frame, &callers)
 	lock(&lockdepLock)
 	table := lockdepRoom()
-	site := lockdepSiteOf(typ, &callers)
+	site := lockdepSiteOf(typ, callers)
 	lockdepSerial += 2
 	serial := lockdepSerial
 	if base != uintptr(object) {
@@ -176,18 +177,42 @@ func lockdepNote(object unsafe.Pointer, typ *lockdepType, frame uintptr) {
 	unlock(&lockdepLock)
 }
 
-// Makes an object, and notes it if it has a lock. A small one would share its memory with others; it gets its own.
-func mallocgc(size uintptr, typ *_type, needzero bool) unsafe.Pointer {
-	t := (*lockdepType)(unsafe.Pointer(typ))
-	if !lockdepOn || t == nil || lockdepMutex == nil || size == 0 || !lockdepKnownLock(t) {
-		return lockdepMallocgc(size, typ, needzero)
+// Whether an object that is about to be made may have a lock. One without a type may: since Go 1.25 the compiler puts variables without pointers
+// together, up to maxTinySize bytes. Little else asks for so few bytes of zeros.
+func lockdepIsNoted(size uintptr, typ *_type, needzero bool) bool {
+	if lockdepMutex == nil || size == 0 {
+		return false
 	}
+	if typ == nil {
+		return needzero && size <= maxTinySize
+	}
+	return lockdepKnownLock((*lockdepType)(unsafe.Pointer(typ)))
+}
+
+// Makes an object, and notes it with the callers above a frame. A small one would share its memory with others; it gets its own.
+//
+//go:nosplit
+func lockdepMake(size uintptr, typ *_type, needzero bool, frame uintptr) unsafe.Pointer {
+	var callers lockdepCallers
+	lockdepWalk(frame, &callers)
 	if size < maxTinySize {
 		size = maxTinySize
 	}
-	object := lockdepMallocgc(size, typ, needzero)
-	lockdepNote(object, t, *(*uintptr)(unsafe.Pointer(getcallersp() - 2*goarch.PtrSize)))
+	object := lockdepRaw(size, typ, needzero)
+	lockdepNote(object, (*lockdepType)(unsafe.Pointer(typ)), &callers)
 	return object
+}
+
+// The program calls this itself for variables that are put together, and else functions that call it, as newobject.
+func mallocgc(size uintptr, typ *_type, needzero bool) unsafe.Pointer {
+	if !lockdepOn || !lockdepIsNoted(size, typ, needzero) {
+		return lockdepMallocgc(size, typ, needzero)
+	}
+	frame := getcallersp() - 2*goarch.PtrSize
+	if typ != nil {
+		frame = *(*uintptr)(unsafe.Pointer(frame))
+	}
+	return lockdepMake(size, typ, needzero, frame)
 }
 
 // Which object an address is in: 0 if that isn't known, as for a global; and the offset of the address in the object.
@@ -212,7 +237,10 @@ func lockdepSiteNumbered(number uint32) *lockdepSite {
 //
 //go:linkname lockdep_element sync.lockdep_element
 func lockdep_element(number uint32, offset uintptr) uintptr {
-	return offset % lockdepSiteNumbered(number).typ.size
+	if typ := lockdepSiteNumbered(number).typ; typ != nil {
+		return offset % typ.size
+	}
+	return offset
 }
 
 // What a lock at an offset of an element is called, and who made the object.
@@ -260,7 +288,7 @@ func lockdep_start() string {
 
 //go:linkname lockdep_begin sync.lockdep_begin
 func lockdep_begin(mutex, rwMutex, once unsafe.Pointer) bool {
-	lockdepMutex, lockdepRWMutex, lockdepOnce = (*lockdepType)(mutex), (*lockdepType)(rwMutex), (*lockdepType)(once)
+	lockdepRaw, lockdepMutex, lockdepRWMutex, lockdepOnce = lockdepMallocgc, (*lockdepType)(mutex), (*lockdepType)(rwMutex), (*lockdepType)(once)
 	return lockdepOn
 }
 

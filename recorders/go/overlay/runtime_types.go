@@ -1,6 +1,6 @@
 package runtime
 
-// ---- Types, as the compiler lays them out: reflect's rtype, structType and arrayType. The layout is that of Go 1.19 to 1.23.
+// ---- Types, as the compiler lays them out: reflect's rtype, structType and arrayType.
 
 type lockdepType struct {
 	size, pointers           uintptr
@@ -149,10 +149,10 @@ func lockdepIsWrapper(t *lockdepType, name string) bool {
 }
 
 // What a lock is called that lies at an offset in an object of a type: the innermost structure with a name, and the way from there. Empty
-// if there is none.
+// if there is none, or no type.
 func lockdepMember(t *lockdepType, offset uintptr) string {
 	outer, way := "", ""
-	for !lockdepIsLock(t) {
+	for t != nil && !lockdepIsLock(t) {
 		switch t.kind & lockdepKindMask {
 		case lockdepKindArray:
 			t = (*lockdepArray)(unsafe.Pointer(t)).elem

@@ -49,8 +49,8 @@ func touch(locks ...sync.Locker) {
 func newAccount() *account { return &account{name: "made"} }
 
 //go:noinline
-func local() (*sync.Mutex, *sync.Mutex) {
-	var first, second sync.Mutex
+func local() (*sync.RWMutex, *sync.RWMutex) {
+	var first, second sync.RWMutex
 	return &first, &second
 }
 

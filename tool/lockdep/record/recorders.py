@@ -46,9 +46,9 @@ class Recorder:
         """The words that start its script, without anything of the user's. (What `site` loads takes longer than all else up to the command.)"""
         return [sys.executable, "-I", "-S", os.path.join(home, "recorders", self.script or "")]
 
-    def building(self, home: str, program: str, words: list[str]) -> dict[str, str]:
-        """What a command that builds programs needs besides, so that these are recorded."""
-        return {}
+    def building(self, home: str, program: str, words: list[str]) -> tuple[dict[str, str], list[str]]:
+        """What a command that builds programs needs besides, so that these are recorded, and its words."""
+        return {}, words
 
     def only_builds(self, words: list[str]) -> bool:
         """Whether a command builds what is to be recorded later, and runs nothing of it."""
@@ -107,10 +107,10 @@ class Go(Recorder):
     def environment(self, folder: str, raw: str, preload: str) -> dict[str, str]:
         return {"PRELOAD": "", "LOCKDEP_TRACES": os.path.dirname(raw)}
 
-    def building(self, home: str, program: str, words: list[str]) -> dict[str, str]:
+    def building(self, home: str, program: str, words: list[str]) -> tuple[dict[str, str], list[str]]:
         """What go needs. A script may call it, a program that is built already doesn't."""
         go = program if go_command.is_go(program) else find_command("go")[0]
-        return go_command.environment(home, go, words) if go and not has(mapped(program), (GO_MARK,)) else {}
+        return go_command.prepared(home, go, words) if go and not has(mapped(program), (GO_MARK,)) else ({}, words)
 
     def only_builds(self, words: list[str]) -> bool:
         return go_command.only_builds(words)

@@ -72,7 +72,7 @@ def begin(home: str, options: RecordOptions, command: list[str], then: str) -> N
     program, status = find_command(command[0])
     if program is None:
         raise Refusal("%s: %s" % (command[0], "there is no such command" if status == 127 else "it can't be run"), status)
-    building = recorder.building(home, program, command)
+    building, command = recorder.building(home, program, command)
     if recorder.only_builds(command):
         write_error("lockdep: this builds what can be recorded, and runs nothing of it: type `lockdep run -- PROGRAM` afterwards")
         become(command, dict(os.environ, **building))
