@@ -23,8 +23,16 @@ class Words(unittest.TestCase):
             self.assertRaisesRegex(Refusal, "type it directly behind `go run`", go_command.own_overlay, words.split())
 
     def test_the_folder_where_go_works(self):
-        for words, wanted in (("go build", ""), ("go -C x build", "x"), ("go build -C x", "x"), ("go build -C=x -C y", "x"), ("go build . -C x", ""), ("make -C x", "")):
+        for words, wanted in (("go build", ""), ("go -C x build", "x"), ("go build -C x", "x"), ("go build -C=x -C y", "x"), ("go build . -C x", ""),
+                              ("make -C x", "")):
             self.assertEqual(go_command.folder_of(words.split()), wanted, words)
+
+
+    def test_words_of_goflags(self):
+        for flags, wanted in (("-a  -b=c", ["-a", "-b=c"]), ("'-x=a b' \"-y='c d'\"", ["-x=a b", "-y='c d'"]), ("-x='a'", ["-x='a'"]), ("'", ["'"]), ("", [])):
+            self.assertEqual(go_command.words_of(flags), wanted)
+            self.assertEqual(go_command.words_of(" ".join(go_command.quoted(word) for word in wanted)), wanted)
+        self.assertRaisesRegex(Refusal, "a space and both quotes", go_command.quoted, "a 'b' \"c\"")
 
 
 class Lists(unittest.TestCase):
@@ -49,13 +57,15 @@ class Lists(unittest.TestCase):
 
     def test_both_lists(self):
         self.assertEqual(self.merged({"a.go": "b.go", "/c.go": "", "../d.go": "/e.go"}),
-                         {self.at("go/sync.go"): "/out/sync.go", self.at("module/a.go"): self.at("module/b.go"), "/c.go": "", self.at("module/../d.go"): "/e.go"})
+                         {self.at("go/sync.go"): "/out/sync.go", self.at("module/a.go"): self.at("module/b.go"), "/c.go": "",
+                          self.at("module/../d.go"): "/e.go"})
         self.assertEqual(self.merged({}), {self.at("go/sync.go"): "/out/sync.go"})
 
     def test_a_file_of_both_lists(self):
         os.symlink(self.at("go"), self.at("link"))
         for path in self.at("go/sync.go"), "../go/sync.go", self.at("link/sync.go"):
-            self.assertRaisesRegex(Refusal, "given.json, which go is given by -overlay, replaces .*/sync.go, as the recorder of Go does", self.merged, {path: "x"})
+            self.assertRaisesRegex(Refusal, "given.json, which go is given by -overlay, replaces .*/sync.go, as the recorder of Go does",
+                                   self.merged, {path: "x"})
 
     def test_a_list_that_isn_t_one(self):
         for text in "", "[]", '{"Replace": 1}', '{"Replace": {"a": 1}}':

@@ -42,10 +42,10 @@ def only_builds(words: list[str]) -> bool:
 
 
 def prepared(home: str, go: str, words: list[str]) -> tuple[dict[str, str], list[str]]:
-    """What a command has to find in its environment, so that what go builds is recorded, and its words. Files that go is to replace anyway are replaced, too."""
+    """What a command has to find in its environment, so that what go builds is recorded, and its words. Files that go replaces anyway are replaced, too."""
     folder = os.path.abspath(folder_of(words))
     settings = settings_of(os.path.abspath(go), folder)
-    flags = [word.strip("'\"") for word in FLAG.findall(settings["GOFLAGS"])]
+    flags = words_of(settings["GOFLAGS"])
     given = [word.partition("=")[2] for word in flags if is_overlay(word)]
     at = own_overlay(words)
     if at is not None:
@@ -80,11 +80,19 @@ def settings_of(go: str, folder: str) -> dict[str, str]:
     return settings
 
 
+def words_of(flags: str) -> list[str]:
+    """The words of GOFLAGS, of which each may be in quotes as a whole."""
+    return [word[1:-1] if word[0] in "'\"" and word[0] == word[1:][-1:] else word for word in FLAG.findall(flags)]
+
+
 def quoted(word: str) -> str:
     """A word as GOFLAGS takes it."""
-    if "'" in word and " " in word:
-        raise Refusal("GOFLAGS can't name %s, which has a space and a quote" % word)
-    return "'%s'" % word if " " in word else word
+    if not re.search(r"\s", word):
+        return word
+    quote = '"' if "'" in word else "'"
+    if quote in word:
+        raise Refusal("GOFLAGS can't name %s, which has a space and both quotes" % word)
+    return quote + word + quote
 
 
 # ---- A list of files that the user has replaced.
@@ -137,7 +145,7 @@ def merged(files: str, given: str, folder: str) -> str:
 # ---- The changed files.
 
 def overlay(home: str, go: str, settings: dict[str, str]) -> str:
-    """The list of changed files for a Go installation. If that hasn't been done yet, they are made, and it is found out whether it records rightly with them."""
+    """The list of changed files for a Go installation. At first they are made, and it is found out whether it records rightly with them."""
     import fcntl
     out = os.path.join(folder_of_made(home), key_of(home, settings))
     if not has_passed(out):
