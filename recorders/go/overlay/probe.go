@@ -21,6 +21,11 @@ type box[T any] struct {
 	mu    sync.Mutex
 }
 
+type plain struct { // (an array of these has no pointers)
+	count int
+	mu    sync.Mutex
+}
+
 var global sync.Mutex
 
 func after(do func()) {
@@ -42,8 +47,9 @@ func put[T any](in *box[T], value T) {
 func main() {
 	owned := &account{owner: "a"} // makes main.account.mu
 	table := make([]bank, 2)      // makes main.bank.shards[].lock, main.bank.once
-	var local sync.Mutex          // makes main.main:45
+	var local sync.Mutex          // makes main.main:50
 	isSet := false
+	grown := append([]plain(nil), plain{}, plain{}) // makes main.plain.mu
 	small := newBox[int]()
 	shard := &table[1].shards[2].lock
 
@@ -68,12 +74,12 @@ func main() {
 		small.mu.Unlock()
 	})
 
-	local.Lock()                // takes main.main:45 w
-	table[1].once.Do(func() {}) // takes main.main:45 w, main.bank.once w
+	local.Lock()                // takes main.main:50 w
+	table[1].once.Do(func() {}) // takes main.main:50 w, main.bank.once w
 	local.Unlock()
 	after(func() {
 		table[0].once.Do(func() { // takes main.bank.once w
-			isSet = local.TryLock() // takes main.bank.once w, main.main:45 tw
+			isSet = local.TryLock() // takes main.bank.once w, main.main:50 tw
 		})
 	})
 
@@ -82,6 +88,8 @@ func main() {
 	}
 	global.Lock()
 	after(global.Unlock)
+	grown[1].mu.Lock() // takes main.plain.mu w
+	grown[1].mu.Unlock()
 	small.mu.Lock() // takes main.box[int].mu w
 	small.mu.Unlock()
 }

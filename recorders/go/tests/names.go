@@ -15,6 +15,11 @@ type bank struct {
 	sync.Mutex
 }
 
+type plain struct {
+	count int
+	mu    sync.Mutex
+}
+
 type myMutex struct{ sync.Mutex }
 
 type guarded struct {
@@ -63,6 +68,9 @@ func main() {
 	touch(&(&box[int]{}).mu)
 	slice := make([]account, 10)
 	touch(&slice[0].mu, &slice[7].mu)
+	var grown []plain
+	grown = append(grown, plain{}, plain{})
+	touch(&grown[1].mu, &append([]plain(nil), make([]plain, 3)...)[2].mu)
 	table["a"] = &account{}
 	touch(&table["a"].mu)
 	touch(local())
