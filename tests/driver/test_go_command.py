@@ -5,7 +5,9 @@ import json
 import os
 import tempfile
 import unittest
+from unittest import mock
 
+import lockdep
 from lockdep.base.saying import Refusal
 from lockdep.record import go_command
 
@@ -72,6 +74,11 @@ class Lists(unittest.TestCase):
             self.put("given.json", text)
             self.assertRaisesRegex(Refusal, "isn't a list of files", go_command.merged, self.at("overlay.json"), self.at("given.json"), "")
         self.assertRaisesRegex(Refusal, "No such file", go_command.merged, self.at("overlay.json"), self.at("none"), "")
+
+    def test_a_folder_that_can_t_be_made(self):
+        home = os.path.realpath(os.path.join(os.path.dirname(lockdep.__file__), "..", ".."))
+        with mock.patch.object(go_command, "folder_of_made", return_value=self.put("file", "") or self.at("file")):
+            self.assertRaisesRegex(Refusal, "can't be kept in .*: Not a directory", go_command.overlay, home, "go", dict.fromkeys(go_command.SETTINGS, "x"))
 
     def test_a_go_whose_files_have_changed_has_to_pass_again(self):
         self.put("go/sync.go", "one")

@@ -149,7 +149,10 @@ def overlay(home: str, go: str, settings: dict[str, str]) -> str:
     import fcntl
     out = os.path.join(folder_of_made(home), key_of(home, settings))
     if not has_passed(out):
-        os.makedirs(out, exist_ok=True)
+        try:
+            os.makedirs(out, exist_ok=True)
+        except OSError as error:
+            raise Refusal("changed files of Go can't be kept in %s: %s" % (out, error.strerror))
         lock = os.open(out, os.O_RDONLY)
         fcntl.flock(lock, fcntl.LOCK_EX)  # (another process may be doing the same)
         if not has_passed(out):
