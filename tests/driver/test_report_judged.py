@@ -94,7 +94,7 @@ class Text(OfRings):
         for forced, placeless, lock, line in (
                 (Forced("task-0001", "ring", at(4), None), (), "", "thread 1 has to come to run at server.c:4"),
                 (Forced("task-0001", "message", at(6), step(2, 7)), (), "",
-                 "thread 2 comes to run at server.c:7 only when thread 1 has passed run at server.c:6"),
+                 "thread 2 goes on at run at server.c:7 only when thread 1 has passed run at server.c:6"),
                 (Forced("task-0001", "message", at(6), step(2, 7)), (7,), "", "thread 2 begins only when thread 1 has passed run at server.c:6"),
                 (Forced("task-0001", "order", at(6), step(2, 7)), (6,), "m#1", "thread 2 takes m#1 at run at server.c:7 only when thread 1 has released it"),
                 (Forced("task-0001", "order", at(6), step(2, 7)), (6,), "thread:worker#1",

@@ -285,17 +285,17 @@ class Verdicts(OfAFinding):
     def test_what_does_not(self) -> None:
         because = Forced("task-0002", "message", event(2), None), Forced("thread-1", "message", event(2), Place("task-0002", event(6)))
         apart = ring(waiting(1, "a", "b", 2), waiting(2, "b", "a", 5), verdict=APART, because=because[1:])
-        self.assertEqual(self.verdict(Verdict.APART, ring=apart), ["kept apart: in this recording, thread 2 comes to m.c:18 only when another thread has passed m.c:9"])
+        self.assertEqual(self.verdict(Verdict.APART, ring=apart), ["kept apart: in this recording, thread 2 goes on at m.c:18 only when another thread has passed m.c:9"])
         self.take({2: ("w.c:1 post", "m.c:9 pays"), 6: ("w.c:1 wait", "m.c:18 audits")})  # (both in one line of what does it for others)
-        self.assertEqual(self.verdict(Verdict.APART, ring=apart), ["kept apart: in this recording, thread 2 comes to m.c:18 only when another thread has passed m.c:9"])
+        self.assertEqual(self.verdict(Verdict.APART, ring=apart), ["kept apart: in this recording, thread 2 goes on at m.c:18 only when another thread has passed m.c:9"])
         self.setUp()
         several = because[1], Forced("thread-1", "message", event(5), Place("task-0001", event(9))), because[1]
         self.assertEqual(self.verdict(Verdict.APART, ring=ring(waiting(1, "a", "b", 2), verdict=APART, because=several)), [
-            "kept apart: in this recording, thread 2 comes to m.c:18 only when another thread has passed m.c:9, and thread 1 comes to m.c:19 only when that thread has passed m.c:17"])
+            "kept apart: in this recording, thread 2 goes on at m.c:18 only when another thread has passed m.c:9, and thread 1 goes on at m.c:19 only when that thread has passed m.c:17"])
         for task, later in (("main", "the main thread"), ("thread-2", "a further thread"), ("task-0012", "thread 12")):
             two = because[1], Forced(task, "message", event(5), Place("task-0001", event(9)))
             self.assertEqual(self.verdict(Verdict.APART, ring=ring(waiting(1, "a", "b", 2), verdict=APART, because=two)), [
-                "kept apart: in this recording, thread 2 comes to m.c:18 only when another thread has passed m.c:9, and thread 1 comes to m.c:19 only when %s has passed m.c:17" % later])
+                "kept apart: in this recording, thread 2 goes on at m.c:18 only when another thread has passed m.c:9, and thread 1 goes on at m.c:19 only when %s has passed m.c:17" % later])
         self.assertEqual(self.verdict(Verdict.APART), ["kept apart: starts, joins and messages keep these steps apart in this recording"])
         self.assertEqual(self.verdict(Verdict.NOT_SHOWN, Reason.ONE_LOCK), ["not shown: one lock was held each time"])
         self.assertEqual(self.verdict(Verdict.NOT_KNOWN, why="it is so"), ["not known: it is so"])

@@ -16,7 +16,7 @@ WRITER, TAKES = "w", "takes"
 MOST_FORCED = 12  # steps that are printed of one ring; the JSON has all of them
 FORCED = {  # what a task has to do, or can't: the words for it, with its place, and with the other task's
     "ring": "{task} has to come to {place}",
-    "message": "{other} comes to {after} only when {task} has passed {place}",
+    "message": "{other} goes on at {after} only when {task} has passed {place}",
     "order": "{other} takes {lock} at {after} only when {task} has released it",
     "none left": "so {task} is past the last place where it would wait",
     "never released": "{task} never releases what it takes at {place}, and {other} takes it at {after}",
