@@ -199,6 +199,12 @@ class Rows(OfAFinding):
             ("lock", "holds a, w.c:1 < pays at m.c:9", "waits for b, w.c:1 < pays at m.c:10", "thread 1"),
             ("lock", "holds b, w.c:1 < audits at m.c:17", "waits for a, w.c:1 < audits at m.c:18", "thread 2")])
 
+    def test_a_lock_that_a_function_takes_for_its_caller_has_that_one_too(self) -> None:
+        """Which still runs when the thread waits."""
+        self.take({2: ("l.h:5 lock", "m.c:4 audit", "m.c:30 main"), 3: ("m.c:9 balance", "m.c:7 audit", "m.c:30 main"), 5: ("m.c:17 note",), 6: ("m.c:18 note",)})
+        self.assertEqual(self.rows(waiting(1, "a", "b", 2), waiting(2, "b", "a", 5)), [
+            ("balance", "holds a, l.h:5 in lock < audit at m.c:4", "waits for b, m.c:9", "thread 1"), ("note", "holds b, m.c:17", "waits for a, m.c:18", "thread 2")])
+
     def test_a_caller_whose_function_is_not_known(self) -> None:
         self.take({2: ("w.c:1 lock", "m.c:9"), 3: ("w.c:1 lock", "m.c:10"), 5: ("w.c:1 lock", "m.c:17"), 6: ("w.c:1 lock", "m.c:18")})
         self.assertEqual(self.rows(waiting(1, "a", "b", 2), waiting(2, "b", "a", 5))[0], ("lock", "holds a, w.c:1 < m.c:9", "waits for b, w.c:1 < m.c:10", "thread 1"))

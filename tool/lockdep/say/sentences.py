@@ -356,8 +356,14 @@ Row = Tuple[str, str, str, str]  # a thread's function, what it holds and where 
 def cells_of(part: Part, traces: Iterable[str], sources: Sources, depth: int) -> Row:
     """The row of a thread of a finding, which has these traces."""
     function = function_of(frames_at(part.at or part.since, sources)) if part.at or part.since else ""
-    holds, waits = [cell_of(what, event, sources, depth, function) for what, event in ((part.holds, part.since), (part.waits, part.at))]
-    return function, holds, waits, who_words(part, traces)
+    holds = cell_of(part.holds, part.since, sources, max(depth, depth_of_hold(part, sources)), function)
+    return function, holds, cell_of(part.waits, part.at, sources, depth, function), who_words(part, traces)
+
+
+def depth_of_hold(part: Part, sources: Sources) -> int:
+    """By how many callers of a hold the function is told that is still running when the thread waits. One that only takes the lock has returned by then."""
+    held, waiting = ([without_parameters(frame.function) for frame in frames_at(event, sources)] if event else [] for event in (part.since, part.at))
+    return next((depth for depth, function in enumerate(held[:DEEPEST], 1) if function and function in waiting), 1)
 
 
 def cell_of(what: str, event: Event | None, sources: Sources, depth: int, function: str) -> str:
