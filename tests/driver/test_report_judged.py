@@ -227,5 +227,6 @@ class Forms(OfRings):
     def test_the_page_says_what_keeps_steps_apart(self) -> None:
         finding = self.shown(Ring(APART, False, WAITS, (), (Forced("task-0001", "none left", None, None),)), Verdict.APART)
         text = finding_html(finding, self.found(finding, Placed()))
+        self.assertEqual(text.count('<th scope="col">Thread 1<br>') + text.count('<th scope="col">Thread 2<br>'), 2)
         self.assertIn('<h3>What keeps these steps apart</h3>\n<pre tabindex="0"><code>so thread 1 is past the last place where it would wait\n</code></pre>', text)
         self.assertNotIn("stand still, in another order", text)

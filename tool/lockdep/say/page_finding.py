@@ -15,7 +15,7 @@ from ..program.findings import Event, Finding
 from ..program.schedules import Ring
 from ..program.verdicts import Verdict
 from ..record.handlers import words_of_handler
-from ..record.threads import called, of_recording
+from ..record.threads import TASK, called, of_recording
 from .explanation import inner_lines
 from .found import Found
 from .judged import called as called_task
@@ -73,9 +73,20 @@ def task_title(finding: Finding, task: int, sources: Sources) -> str:
     return "Thread 1, which %s interrupts" % finding.state if task == 0 else name.capitalize()
 
 
+def files_of_task(steps: list[Step], task: int) -> set[str]:
+    return {step.event.file for step in steps if step.task == task and step.event}
+
+
+def title_of_task(finding: Finding, steps: list[Step], task: int, sources: Sources) -> str:
+    """The title of a task, which is a thread if its only trace is one's."""
+    names = {os.path.splitext(os.path.basename(file))[0] for file in files_of_task(steps, task)}
+    number = TASK.fullmatch(names.pop()) if len(names) == 1 and not finding.handler else None
+    return "Thread " + number.group(1) if number else task_title(finding, task, sources)
+
+
 def task_head(finding: Finding, steps: list[Step], task: int, sources: Sources) -> str:
     """The head of a task's column, with its trace if it is only one."""
-    files, title = {step.event.file for step in steps if step.task == task and step.event}, escaped(task_title(finding, task, sources))
+    files, title = files_of_task(steps, task), escaped(title_of_task(finding, steps, task, sources))
     if len(files) != 1:
         return '<th scope="col">%s</th>' % title
     trace = files.pop()
@@ -86,7 +97,7 @@ def task_head(finding: Finding, steps: list[Step], task: int, sources: Sources) 
 
 def task_rows(finding: Finding, steps: list[Step], sources: Sources) -> str:
     rows, events, tasks = "", events_of(steps), task_count(steps)
-    titles = [escaped(task_title(finding, task, sources)) for task in range(tasks)]
+    titles = [escaped(title_of_task(finding, steps, task, sources)) for task in range(tasks)]
     for number, step in enumerate(steps, 1):
         said = step_html(finding, step, events, sources)
         cells = "".join('<td data-task="%s">%s</td>' % (titles[task], said if task == step.task else "") for task in range(tasks))
