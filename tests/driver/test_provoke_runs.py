@@ -210,8 +210,14 @@ class TheEndOfARun(unittest.TestCase):
         for dumping in (3, 0):
             looks = iter([True] * dumping)
             with mock.patch.multiple(runs, GRACE=0.01, is_dumping=lambda _: next(looks, False)):
-                runs.wait_for_end(child.pid)
+                runs.end_by_abort(child.pid)
             self.assertEqual((list(looks), child.poll()), ([], None))
+
+    def test_a_handler_that_waits_when_it_is_out_of_force_is_not_waited_for(self) -> None:
+        child = self.sleeper("signal.signal(signal.SIGABRT, lambda *_: (signal.signal(signal.SIGABRT, signal.SIG_DFL), time.sleep(600)))")
+        with mock.patch.object(runs, "GRACE", 1):
+            runs.end_by_abort(child.pid)
+        self.assertEqual((standing.is_ended_by(child.pid, signal.SIGABRT), child.poll()), (True, None))
 
     def test_a_process_ends_by_sigabrt_unless_it_does_something_about_it(self) -> None:
         rows = (("pass", True), ("signal.signal(signal.SIGABRT, lambda *_: None)", False), ("signal.signal(signal.SIGABRT, signal.SIG_IGN)", False),
@@ -232,8 +238,7 @@ class TheEndOfARun(unittest.TestCase):
                 time.sleep(0.001)
             with mock.patch.object(runs, "GRACE", -1):
                 self.assertTrue(system.is_there(child.pid))
-                child.send_signal(signal.SIGABRT)
-                runs.wait_for_end(child.pid)
+                runs.end_by_abort(child.pid)
                 self.assertFalse(system.is_there(child.pid))
 
 

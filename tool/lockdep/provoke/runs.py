@@ -95,8 +95,7 @@ class Run:
         try:
             self.load.end()
             if process:
-                send(process, signal.SIGABRT)
-                wait_for_end(process)
+                end_by_abort(process)
         finally:
             with undisturbed():
                 self.kill()
@@ -116,11 +115,12 @@ class Run:
                 return
 
 
-def wait_for_end(process: int) -> None:
-    """Waits until a process that was sent SIGABRT has ended: as long as it has to end by that, or writes a core dump, and otherwise, as where a handler
-    does something else, for a short time."""
-    end = time.monotonic() + GRACE
-    while is_there(process) and (is_ended_by(process, signal.SIGABRT) or is_dumping(process) or time.monotonic() < end):
+def end_by_abort(process: int) -> None:
+    """Sends SIGABRT to a process, and waits until that has ended: as long as it has to end by that, or writes a core dump, and otherwise for a short time,
+    as where a handler does something else, which may have put itself out of force and wait for a lock."""
+    has_to, end = is_ended_by(process, signal.SIGABRT), time.monotonic() + GRACE
+    send(process, signal.SIGABRT)
+    while is_there(process) and (has_to and is_ended_by(process, signal.SIGABRT) or is_dumping(process) or time.monotonic() < end):
         time.sleep(LOOK)
 
 
