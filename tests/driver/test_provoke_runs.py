@@ -377,12 +377,15 @@ class TheWatch(unittest.TestCase):
 
 class WhatCouldEndIt(unittest.TestCase):
     def found(self, releasing: int, going: int, call: int = IN_LOCK, timers: tuple[Timer, ...] = (), family: tuple[int, ...] = (),
-              caught: int = 14, blocked: int = 0, second: int | None = None) -> list[Doubt]:
+              caught: int = 14, blocked: int = 0, second: int | None = None, writers: tuple[Thread, ...] = (), unwatched: tuple[int, ...] = (),
+              limited: bool = False) -> list[Doubt]:
         """Of two threads, of which the second one runs no handlers, and may be of another process. The signal that is caught has one."""
         table = mock.Mock(spec=Table)
         table.timers.return_value, table.last.return_value = timers, last()
         with mock.patch.multiple(standing, heeded_by=lambda process, threads: 1 << caught >> 1 if threads else 0, tasks_of=lambda _: [2],
-                                 descendants=lambda process: list(family), mask_in=lambda *_: blocked, goes_on=lambda process, stuck: process > 0):
+                                 descendants=lambda process: list(family), mask_in=lambda *_: blocked, goes_on=lambda process, stuck: process > 0,
+                                 writers_before=lambda *_: list(writers), signals_of_timers=lambda _: set(unwatched),
+                                 has_limit_of_processor_time=lambda _: limited):
             other = dataclasses.replace(thread(2, 10, 20, releasing, WITHOUT_HANDLERS), process=second or os.getpid())
             return doubts([thread(1, 20, 10, releasing, call), other], going, table)
 
@@ -397,6 +400,27 @@ class WhatCouldEndIt(unittest.TestCase):
                 (BY_HOLDER, 1, INTERRUPTIBLE | IN_JOIN, [Doubt(interrupts, False)]))
         for releasing, going, call, wanted in rows:
             self.assertEqual(self.found(releasing, going, call, caught=0), wanted, (releasing, going, call))
+
+    def test_a_writer_before_whom_a_reader_waits(self) -> None:
+        """If its wait is broken off, the reader goes on."""
+        writer = thread(3, 20, 0, BY_HOLDER, INTERRUPTIBLE)
+        self.assertEqual(self.found(BY_HOLDER, 1, WITHOUT_HANDLERS, caught=0, writers=(writer,)), [Doubt("1 other thread can go on, and may interrupt one of these", True)])
+        handled = [Doubt("1 other process goes on, and may send a signal that has a handler: SIGUSR1", False)]
+        self.assertEqual(self.found(BY_HOLDER, 0, WITHOUT_HANDLERS, family=(7,), caught=10, writers=(thread(3, 20, 0, BY_HOLDER),)), handled)
+
+    def test_timers_that_are_not_watched(self) -> None:
+        for unwatched, limited, caught, wanted in (((10,), False, 10, "SIGUSR1"), ((10,), False, 14, ""), ((), True, 24, "SIGXCPU"), ((), False, 24, "")):
+            said = [Doubt("a timer or a limit may be armed, and %s has a handler" % wanted, True)] if wanted else []
+            self.assertEqual(self.found(BY_HOLDER, 0, caught=caught, unwatched=unwatched, limited=limited), said, (unwatched, limited, caught))
+
+    def test_another_process_that_waits_for_a_signal_may_have_a_timer(self) -> None:
+        child = subprocess.Popen(["sh", "-c", "exec python3 -c 'import signal; print(flush=True); signal.pause()'"], stdout=subprocess.PIPE)
+        self.addCleanup(child.wait)
+        self.addCleanup(child.kill)
+        child.stdout.readline()
+        while system.call_of(child.pid, child.pid)[:1] not in (["34"], ["130"]):
+            time.sleep(0.001)
+        self.assertEqual((standing.goes_on(child.pid, set()), system.is_endless(child.pid, child.pid, set())), (True, True))
 
     def test_a_handler_runs_in_a_thread_that_stands(self) -> None:
         handler = [Doubt("1 other thread can go on, and may send a signal that has a handler: SIGUSR1", False)]

@@ -11,7 +11,8 @@ from ..base.words import counted
 from ..binaries.elf import build_words
 from ..binaries.symbols import Address
 from .holders import LIBRARY
-from .system import ENDED, STOPPED, descendants, is_endless, link_of, sleeps_of, state_of, tasks_of, text_of_file, waits_at
+from .system import (ENDED, STOPPED, descendants, has_limit_of_processor_time, is_endless, link_of, signals_of_timers, sleeps_of, state_of, tasks_of, text_of_file,
+                     waits_at)
 from .table import (BY_ANYBODY, BY_HOLDER, BY_OTHERS, IN_CONDITION, IN_JOIN, IN_ONCE, IN_SEMAPHORE, IN_SPIN, OTHERS, READS_BEHIND, RUNS_FUNCTION,
                     SHARED_LOCK, WAITS, WRITES, Held, Modules, Place, Table, Thread, cycle_in)
 
@@ -136,21 +137,22 @@ class Doubt:
 
 def doubts(cycle: list[Thread], going: int, table: Table) -> list[Doubt]:
     """What could end it, where so many other threads can go on."""
-    return timers_armed(cycle, table) + others(cycle, going, table) + other_processes(cycle)
+    waiting = cycle + writers_before(cycle, table.threads())
+    return timers_armed(cycle, table) + others(cycle, waiting, going, table) + other_processes(cycle, waiting)
 
 
-def other_processes(cycle: list[Thread]) -> list[Doubt]:
+def other_processes(cycle: list[Thread], waiting: list[Thread]) -> list[Doubt]:
     """Processes of the run and of the load beside it, which go on beside those of the cycle, where one of them can do something about it."""
-    processes, may = {thread.process for thread in cycle}, what_processes_may(cycle)
+    processes, may = {thread.process for thread in cycle}, what_processes_may(cycle, waiting)
     going = len(going_beside(processes, set(descendants(os.getpid())) - processes)) if may else 0
     return [Doubt("%s, and %s" % (counted(going, "other process goes on", "other processes go on"), may), False)] if going else []
 
 
-def what_processes_may(cycle: list[Thread]) -> str:
+def what_processes_may(cycle: list[Thread], waiting: list[Thread]) -> str:
     """What another process could do about it: send a signal that has a handler, or end one process of several, which releases its robust locks. Empty if
     it can do nothing."""
-    if handled_in(cycle):
-        return HANDLED % ", ".join(handled_in(cycle))
+    if handled_in(cycle, waiting):
+        return HANDLED % ", ".join(handled_in(cycle, waiting))
     is_released = len({thread.process for thread in cycle}) > 1 and any(each.releasing == BY_OTHERS for each in awaited_in(cycle))
     return "may end one of these, which releases its robust locks" if is_released else ""
 
@@ -166,16 +168,17 @@ def going_beside(stuck: set[int], others: set[int]) -> set[int]:
 
 def goes_on(process: int, standing: set[int]) -> bool:
     """Whether a process has a thread that doesn't wait without an end."""
-    return any(state_of(process, task) not in ENDED and not is_endless(process, task, standing) for task in tasks_of(process))
+    return any(state_of(process, task) not in ENDED and not is_endless(process, task, standing, is_watched=False) for task in tasks_of(process))
 
 
-def handled_in(cycle: list[Thread]) -> list[str]:
-    """The signals of which a handler could end it, but for those of faults: one that runs in a thread of the cycle may jump out of the wait or raise an
-    error there, and in any other thread, one may release a lock that not only its holder can, or interrupt a wait that may be."""
-    is_by_others = not is_by_holders(cycle) or any(thread.is_interruptible for thread in cycle)
+def handled_in(cycle: list[Thread], waiting: list[Thread]) -> list[str]:
+    """The signals of which a handler could end it, but for those of faults: one that runs in a thread of the cycle, or a writer before whom one of these
+    waits, may jump out of the wait or raise an error there, and in any other thread, one may release a lock that not only its holder can, or interrupt a
+    wait that may be."""
+    is_by_others = not is_by_holders(cycle) or any(thread.is_interruptible for thread in waiting)
     heeded = 0
     for process in {thread.process for thread in cycle}:
-        own = [thread.thread for thread in cycle if thread.process == process and thread.runs_handlers]
+        own = [thread.thread for thread in waiting if thread.process == process and thread.runs_handlers]
         heeded |= heeded_by(process, tasks_of(process) if is_by_others else own)
     return [name_of_signal(number) for number in WITH_HANDLERS if heeded >> number - 1 & 1]
 
@@ -192,19 +195,27 @@ def timers_armed(cycle: list[Thread], table: Table) -> list[Doubt]:
     armed = [timer for timer in table.timers() if timer.process in processes and timer.is_armed(now)]
     said = [ARMED.get(timer.signal, "a timer is armed, and %s has a handler" % name_of_signal(timer.signal))
             for timer in armed if timer.signal in ARMED or is_caught(timer.process, timer.signal)]
+    said += ["a timer or a limit may be armed, and %s has a handler" % name_of_signal(number) for process in processes
+             for number in unwatched_signals(process, table) if is_caught(process, number)]
     return [Doubt(words, True) for words in dict.fromkeys(said)]
 
 
-def others(cycle: list[Thread], going: int, table: Table) -> list[Doubt]:
+def unwatched_signals(process: int, table: Table) -> set[int]:
+    """The signals of timers that a process didn't make by the C library, and of a limit of its processor time."""
+    watched = {timer.signal for timer in table.timers() if timer.process == process}
+    return signals_of_timers(process) - watched | ({signal.SIGXCPU} if has_limit_of_processor_time(process) else set())
+
+
+def others(cycle: list[Thread], waiting: list[Thread], going: int, table: Table) -> list[Doubt]:
     """Threads of the same processes that aren't in the cycle, and go on, or can: one of them could interrupt a wait that may be, release a lock of the
     cycle, unless that refuses to be released by anybody but its holder, or else have a handler of a signal run there. Few joins are interrupted."""
     if not going:
         return []
     may = "%s, " % going_words(going)
-    if any(thread.is_interruptible for thread in cycle):
-        return [Doubt(may + "and may interrupt one of these", any(thread.is_interruptible and thread.call != IN_JOIN for thread in cycle))]
+    if any(thread.is_interruptible for thread in waiting):
+        return [Doubt(may + "and may interrupt one of these", any(thread.is_interruptible and thread.call != IN_JOIN for thread in waiting))]
     if is_by_holders(cycle):
-        is_reached, caught = any(map(is_reached_by_signals, cycle)), handled_in(cycle)
+        is_reached, caught = any(map(is_reached_by_signals, waiting)), handled_in(cycle, waiting)
         return [Doubt(may + "and " + (HANDLED % ", ".join(caught) if caught else MAY_SET), False)] if is_reached else []
     who = {each.releasing for each in awaited_in(cycle)}
     is_usual = BY_ANYBODY in who or table.last().is_handed_over

@@ -99,12 +99,23 @@ def waits_for_lock(call: list[str]) -> bool:
     return call[:1] == [FUTEX] and call[4:5] == [NO_LIMIT]
 
 
-def is_endless(process: int, thread: int, standing: set[int]) -> bool:
+def is_endless(process: int, thread: int, standing: set[int], is_watched: bool = True) -> bool:
     """Whether a thread waits without a limit of time for other threads, for signals, or for the end of a process or bytes of a pipe that come only from
-    processes that stand."""
+    processes that stand. A signal may be that of a timer: whether one is armed is known only of a process that is watched."""
     call = call_of(process, thread)
-    return waits_for_lock(call) or call[:1] in ([PAUSE], [SUSPEND]) or (call[:1] in ([WAIT4], [WAITID]) and children_awaited(process, call) <= standing) or \
+    return waits_for_lock(call) or (is_watched and call[:1] in ([PAUSE], [SUSPEND])) or (call[:1] in ([WAIT4], [WAITID]) and children_awaited(process, call) <= standing) or \
         (call[:1] == [READ] and reads_only_from(standing, process, int(call[1], 16)))
+
+
+def signals_of_timers(process: int) -> set[int]:
+    """The signals of the timers of a process by `timer_create`, armed or not, as far as the system tells of them."""
+    lines = text_of_file("/proc/%d/timers" % process).splitlines()
+    return {int(line.split()[1].partition("/")[0]) for line in lines if line.startswith("signal:")}
+
+
+def has_limit_of_processor_time(process: int) -> bool:
+    lines = text_of_file("/proc/%d/limits" % process).splitlines()
+    return any(line.startswith("Max cpu time") and line.split()[3] != "unlimited" for line in lines)
 
 
 def children_awaited(process: int, call: list[str]) -> set[int]:
