@@ -6,6 +6,7 @@ import signal
 import subprocess
 import sys
 import tempfile
+import time
 import unittest
 from unittest import mock
 
@@ -29,8 +30,10 @@ class AProgramThatDoesntEnd(unittest.TestCase):
         with tempfile.TemporaryDirectory() as folder, mock.patch.object(provoke_load, "PATIENCE", 0.1):
             holder = mock.Mock(spec=Preloaded)
             holder.takes_locks = lambda path: path.endswith(".arena")
-            status = provoke_recorded.end_of_recording(self.recorder(folder), folder, "true", holder)
-            self.assertEqual(status, signal.SIGKILL)
+            began = time.monotonic()
+            run = provoke_recorded.end_of_recording(self.recorder(folder), folder, "true", holder)
+            self.assertEqual(run.status, signal.SIGKILL)
+            self.assertLess(run.seconds, time.monotonic() - began - 0.1)  # (how long it had to end doesn't count)
 
     def test_a_signal_that_comes_as_the_load_starts_ends_that_too(self) -> None:
         started, really = [], subprocess.Popen

@@ -33,16 +33,16 @@ class Recorded:
 def recorded(home: str, folder: str, recorder: Recorder, holder: Holder, line: Words) -> Recorded:
     """Records the command, with another one beside it if that is asked for. A signal ends the recorded run: the terminal's Ctrl-C comes to it too, and
     others are passed on."""
-    began, before = time.monotonic(), made_at(folder)
+    before = made_at(folder)
     pass_on(recorder, line.last("--signals"), "")
     recording = start(recording_words(home, folder, recorder, line))
     for number in ENDING:
         if signal.getsignal(number) is not signal.SIG_IGN:
             signal.signal(number, lambda number, frame: send(recording, number) if number != signal.SIGINT else None)
-    status = end_of_recording(recording, folder, line.last("--while"), holder)
+    run = end_of_recording(recording, folder, line.last("--while"), holder)
     if made_at(folder) in (0, before):
-        raise Refusal("nothing was recorded: the recorder ended with status %d" % status)
-    return Recorded(time.monotonic() - began, status)
+        raise Refusal("nothing was recorded: the recorder ended with status %d" % run.status)
+    return run
 
 
 def recording_words(home: str, folder: str, recorder: Recorder, line: Words) -> list[str]:
@@ -61,12 +61,13 @@ def made_at(folder: str) -> int:
         return 0
 
 
-def end_of_recording(recorder: int, folder: str, beside: str, holder: Holder) -> int:
-    """Waits until the recorder has ended, and returns its status. A program that doesn't end by SIGTERM, or in which all threads wait for one
-    another, stands still: it is killed, which leaves its recording."""
+def end_of_recording(recorder: int, folder: str, beside: str, holder: Holder) -> Recorded:
+    """Waits until the recorder has ended. A program that doesn't end by SIGTERM, or in which all threads wait for one another, stands still: it is killed,
+    which leaves its recording. How long it was left to stand, or to end, doesn't count."""
+    began = time.monotonic()
     load, raw, still = Load(beside, 2), os.path.join(folder, "raw"), Stillness()
     recorded: list[int] = []
-    ended, status = 0, 0
+    ended, status, stood = 0, 0, 0.0
     while not ended:
         load.step(bool(beside) and any(holder.takes_locks(os.path.join(raw, name)) for name in listed(raw)), recorder)
         if load.asked_at and not recorded:
@@ -76,10 +77,11 @@ def end_of_recording(recorder: int, folder: str, beside: str, holder: Holder) ->
         elif still.is_sure(recorder):
             write_error("lockdep: the recorded run stood still for %d seconds, and was ended; its recording is used" % STILL)
             kill(set(descendants(recorder)))
+            stood = time.monotonic() - STILL
         time.sleep(LOOK)
         ended, status = os.waitpid(recorder, os.WNOHANG)
     load.end()
-    return 128 + os.WTERMSIG(status) if os.WIFSIGNALED(status) else os.WEXITSTATUS(status)
+    return Recorded((load.asked_at or stood or time.monotonic()) - began, 128 + os.WTERMSIG(status) if os.WIFSIGNALED(status) else os.WEXITSTATUS(status))
 
 
 def kill(processes: set[int]) -> None:
