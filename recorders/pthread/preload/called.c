@@ -47,10 +47,17 @@ void forget_name(pthread_t thread) {
 void begin_name(struct raw_thread *part) {
     own_part = part;
     part->self = this_thread();
+    copy_name(part->name, own_name);
+}
+
+/* The trace of this thread has begun, so who names the thread from now on finds it. One who didn't has kept the name before, or looks once more. */
+void take_early_name(struct raw_thread *part) {
+    __atomic_thread_fence(__ATOMIC_SEQ_CST);
     struct early_name *early = early_name_of(part->self);
-    copy_name(part->name, early ? early->name : own_name);
-    if (early)
-        STORE(&early->thread, 0);
+    if (!early)
+        return;
+    copy_name(part->name, early->name);
+    STORE(&early->thread, 0);
 }
 
 static bool is_of(const struct raw_thread *part, pthread_t thread) {
@@ -69,12 +76,17 @@ static struct raw_thread *part_of_thread(pthread_t thread) {
     return NULL;
 }
 
+/* Its trace may begin meanwhile. */
 static void keep_name(pthread_t thread, const char *name) {
     forget_name(thread);
     struct early_name *early = &early_names[ADD(&early_count, 1) % EARLY_NAMES];
     STORE(&early->thread, 0);
     copy_name(early->name, name);
     STORE(&early->thread, thread);
+    __atomic_thread_fence(__ATOMIC_SEQ_CST);
+    struct raw_thread *part = part_of_thread(thread);
+    if (part)
+        copy_name(part->name, name);
 }
 
 /* A thread has a name, which may be given by another one. */

@@ -313,6 +313,7 @@ bool is_asked(int *known, const char *what); /* by LOCKDEP_ALSO */
 /* ---- called.c */
 
 void begin_name(struct raw_thread *part);
+void take_early_name(struct raw_thread *part);
 void forget_name(pthread_t thread);
 
 /* ---- places.h */

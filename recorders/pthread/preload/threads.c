@@ -93,6 +93,8 @@ static bool begin_trace(struct thread *t, uint32_t source) {
     t->steps = &no_step;
     t->steps_mask = 0;
     STORE(&t->raw->is_ready, 1);
+    if (!source)
+        take_early_name(t->raw);
     return true;
 }
 
